@@ -1,0 +1,69 @@
+-- The first place of the largest, and of the smallest: one law over the order by which they are picked.
+use mathlib.Core.Path.{_≡_, refl, sym, _∙_}
+use mathlib.Core.Bool.{Bool, true, false, cond}
+use mathlib.Core.Logic.{⊎-elim}
+use Prim.Native.Nat.{ℕ, zero, suc, _+_, _≤_, _<_}
+use native.Mathlib.Nat.{eq-or-lt-of-le}
+use native.Mathlib.Numerals.{add-one}
+use native.Mathlib.Omega.{arith}
+use lib.IntN.{ℤ}
+use lib.Signed.{_≤ℤ_, _<ℤ_, ltZ}
+use Rattle.whole.specs.Pick.{firstBy, largestAt, smallestAt, largest, smallest}
+use Rattle.whole.proofs.Arith.{up, down, arithℤ}
+use Rattle.whole.proofs.Order.{true-lt, false-lt}
+
+-- u and d are the halves of a whole number for the largest, and change places for the smallest
+module _ (u d : ℤ → ℕ) (over : ℤ → ℤ → Bool)
+    (yes′ : (x y : ℤ) → over x y ≡ true → u x + d y < u y + d x)
+    (no′ : (x y : ℤ) → over x y ≡ false → u y + d x ≤ u x + d y)
+    (f : ℕ → ℤ) where
+  record First (n k : ℕ) : Type 0 where
+    within : k ≤ n
+    bounds : (j : ℕ) → j ≤ n → u (f j) + d (f k) ≤ u (f k) + d (f j)
+    first : (j : ℕ) → j < k → u (f j) + d (f k) < u (f k) + d (f j)
+
+  first-by : (n : ℕ) → First n (firstBy over f n)
+  unfolding firstBy
+  first-by zero = record { within = omega arith; bounds = λ j h. let e : j ≡ 0 = omega arith in rw e (omega arith); first = λ j h. absurd (omega arith) }
+  first-by (suc n) = go (over (f (firstBy over f n)) (f (suc n))) refl (first-by n)
+    where
+      go : (t : Bool) → over (f (firstBy over f n)) (f (suc n)) ≡ t → First n (firstBy over f n) → First (suc n) (cond t (suc n) (firstBy over f n))
+      go true e p =
+          let m = yes′ _ _ e in
+          record {
+            within = omega arith;
+            bounds = λ j h. ⊎-elim (λ g. rw g (omega arith)) (λ g. omega (arith, p .bounds j (omega arith))) (eq-or-lt-of-le h);
+            first = λ j h. omega (arith, p .bounds j (omega arith));
+          }
+      go false e p =
+          let m = no′ _ _ e in
+          record {
+            within = omega (arith, p .within);
+            bounds = λ j h. ⊎-elim (λ g. rw g m) (λ g. p .bounds j (omega arith)) (eq-or-lt-of-le h);
+            first = p .first;
+          }
+
+pub record Largest (f : ℕ → ℤ) (n k : ℕ) : Type 0 where
+  pub within : k ≤ n
+  pub bounds : (j : ℕ) → j ≤ n → f j ≤ℤ f k
+  pub first : (j : ℕ) → j < k → f j <ℤ f k
+
+pub record Smallest (f : ℕ → ℤ) (n k : ℕ) : Type 0 where
+  pub within : k ≤ n
+  pub bounds : (j : ℕ) → j ≤ n → f k ≤ℤ f j
+  pub first : (j : ℕ) → j < k → f k <ℤ f j
+
+pub largest-law : (f : ℕ → ℤ) (n : ℕ) → Largest f n (largestAt f n)
+largest-law f n =
+    let p = first-by up down ltZ (λ x y e. omega (arithℤ, true-lt x y e)) (λ x y e. omega (arithℤ, false-lt x y e)) f n in
+    record { within = p .within; bounds = λ j h. omega (arithℤ, p .bounds j h); first = λ j h. omega (arithℤ, p .first j h) }
+
+pub smallest-law : (f : ℕ → ℤ) (n : ℕ) → Smallest f n (smallestAt f n)
+smallest-law f n =
+    let p = first-by down up (λ x y. ltZ y x) (λ x y e. omega (arithℤ, true-lt y x e)) (λ x y e. omega (arithℤ, false-lt y x e)) f n in
+    record { within = p .within; bounds = λ j h. omega (arithℤ, p .bounds j h); first = λ j h. omega (arithℤ, p .first j h) }
+
+-- one place more, as a loop takes it
+pub first-more : (over : ℤ → ℤ → Bool) (f : ℕ → ℤ) (n : ℕ) → firstBy over f (n + 1) ≡ cond (over (f (firstBy over f n)) (f (n + 1))) (n + 1) (firstBy over f n)
+unfolding firstBy
+first-more over f n = rw add-one

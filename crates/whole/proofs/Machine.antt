@@ -1,0 +1,52 @@
+-- What an i32 holds. In an invariant a signed local is its bits, a ℕ: `toZ w32 v`; `back` turns the bits of a whole number into it again.
+use mathlib.Core.Path.{_≡_}
+use mathlib.Core.Logic.{_⊎_, inl, inr}
+use Prim.Native.Nat.{ℕ, _+_, _≤_, _<_, _^_}
+use native.Mathlib.Omega.{arith}
+use lib.IntN.{ℤ, pos, negsuc, negℤ, _+ℤ_, _-ℤ_, natAbs}
+use lib.Signed.{mag, _≤ℤ_}
+use mir.Syntax.{w32}
+use mir.Val.{toZ, ofZ, SFits}
+use mir.ValLaws.{toZ-ofZ}
+use Rattle.whole.proofs.Arith.{up, down, arithℤ, sum, dif, neg}
+
+pub back : (z : ℤ) → mag z < 2 ^ 31 → toZ w32 (ofZ w32 z) ≡ z
+back z h = toZ-ofZ w32 z (record { sfits = h })
+
+pub abs-halves : (z : ℤ) → natAbs z ≡ up z + down z
+abs-halves (pos n) = omega arith
+abs-halves (negsuc n) = omega arith
+
+-- a whole number between -B and B
+pub abs-of : (z : ℤ) (B : ℕ) → up z ≤ down z + B → down z ≤ up z + B → natAbs z ≤ B
+abs-of (pos n) B h k = omega arith
+abs-of (negsuc n) B h k = omega arith
+
+pub abs-within : (z : ℤ) (B : ℕ) → negℤ (pos B) ≤ℤ z → z ≤ℤ pos B → natAbs z ≤ B
+abs-within z B h k = abs-of z B (omega arithℤ) (omega (arithℤ, neg (pos B)))
+
+pub abs-is : (z : ℤ) (B : ℕ) → (up z ≡ down z + B) ⊎ (down z ≡ up z + B) → natAbs z ≡ B
+abs-is (pos n) B (inl h) = omega arith
+abs-is (pos n) B (inr h) = omega arith
+abs-is (negsuc n) B (inl h) = omega arith
+abs-is (negsuc n) B (inr h) = omega arith
+
+pub abs-sum : (x y : ℤ) → natAbs (x +ℤ y) ≤ natAbs x + natAbs y
+abs-sum x y = abs-of (x +ℤ y) (natAbs x + natAbs y) (omega (arith, sum x y, abs-halves x, abs-halves y)) (omega (arith, sum x y, abs-halves x, abs-halves y))
+
+pub abs-dif : (x y : ℤ) → natAbs (x -ℤ y) ≤ natAbs x + natAbs y
+abs-dif x y = abs-of (x -ℤ y) (natAbs x + natAbs y) (omega (arith, dif x y, abs-halves x, abs-halves y)) (omega (arith, dif x y, abs-halves x, abs-halves y))
+
+mag-abs : (z : ℤ) → mag z ≤ natAbs z
+mag-abs (pos n) = omega arith
+mag-abs (negsuc n) = omega arith
+
+-- a number within two thousand millions fits an i32, and so do the sums and differences of two within a thousand millions
+pub fits32 : (z : ℤ) → natAbs z ≤ 2000000000 → mag z < 2 ^ 31
+fits32 z h = omega (arith, mag-abs z)
+
+pub sum-fits : (x y : ℤ) → natAbs x ≤ 1000000000 → natAbs y ≤ 1000000000 → mag (x +ℤ y) < 2 ^ 31
+sum-fits x y h k = fits32 (x +ℤ y) (omega (arith, abs-sum x y))
+
+pub dif-fits : (x y : ℤ) → natAbs x ≤ 1000000000 → natAbs y ≤ 1000000000 → mag (x -ℤ y) < 2 ^ 31
+dif-fits x y h k = fits32 (x -ℤ y) (omega (arith, abs-dif x y))

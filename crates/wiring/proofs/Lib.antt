@@ -1,0 +1,10 @@
+-- What the floors above cite: Theorem, Rule, Mirror, Halving, Build and Drawing. The others are the way there.
+mod Walk
+mod Pigeon
+mod Diagonal
+pub mod Build
+pub mod Rule
+pub mod Drawing
+pub mod Theorem
+pub mod Mirror
+pub mod Halving
