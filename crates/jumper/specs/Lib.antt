@@ -1,0 +1,4 @@
+pub mod Limits
+pub mod Refusals
+pub mod Rows
+pub mod Range

@@ -1,0 +1,17 @@
+-- A range of offsets (01: "An offset range knows of itself: the range of every offset, whether it is empty, its meet with another").
+use lib.IntN.{ℤ}
+use lib.Signed.{_≤ℤ_}
+use Rattle.whole.specs.Pick.{largerOf, smallerOf}
+use Rattle.jumper.specs.Limits.{lowestOffset, highestOffset}
+use Rattle.jumper.specs.declared.range.OffsetRange.{OffsetRange}
+
+-- an offset is in a range, both ends included
+pub record Within (d : ℤ) (r : OffsetRange) : Type 0 where
+  pub low : r .low ≤ℤ d
+  pub high : d ≤ℤ r .high
+
+abbrev pub wholeRange : OffsetRange
+wholeRange = record { low = lowestOffset; high = highestOffset }
+
+abbrev pub meetOf : OffsetRange → OffsetRange → OffsetRange
+meetOf r s = record { low = largerOf (r .low) (s .low); high = smallerOf (r .high) (s .high) }
