@@ -55,7 +55,7 @@ pub refused-not : (r : Refusal) → Refused r ≡ Accepted → ⊥
 refused-not r e = let z : _≡_ {A = ℕ} 0 1 = cc in omega arith
 
 -- a choice that comes out as Accepted, where the one side is a refusal, took the other
-second : (t : Bool) (f : Refusal) (r : Checked) → pick t (Refused f) r ≡ Accepted → (t ≡ false) × (r ≡ Accepted)
+pub second : (t : Bool) (f : Refusal) (r : Checked) → pick t (Refused f) r ≡ Accepted → (t ≡ false) × (r ≡ Accepted)
 second true f r e = absurd (refused-not f e)
 second false f r e = (refl, e)
 

@@ -1,4 +1,5 @@
 pub mod Limits
 pub mod Refusals
 pub mod Rows
+pub mod Asked
 pub mod Range

@@ -2,13 +2,19 @@
 -- Which wirings it speaks for is proved in proofs/Theorem.antt.
 --
 -- Worked: J = rows 0,1,4,5 and 1,2,3,4 has x = 0,0,2,2 and y = 1,1,1,1. At s = 2 the rule says -1 <= d <= 1; at s = 1 it says 1 <= d <= -1.
+use mathlib.Core.List.{List}
 use Prim.Native.Nat.{ℕ, suc, _+_, _-_, _*_, _/_, _≤_, _<_}
 use lib.IntN.{ℤ, pos, negℤ, _-ℤ_}
 use lib.Signed.{_≤ℤ_, _<ℤ_}
+use Rattle.wiring.specs.Wiring.{pad}
 
 -- "Put x_i = a_i - i and y_i = b_i - i."
 abbrev pub lean : (ℕ → ℤ) → ℕ → ℤ
 lean a i = a i -ℤ pos i
+
+-- the same of a row that is a list: x of the bottom row, y of the top row
+abbrev pub leanOf : List ℤ → ℕ → ℤ
+leanOf a i = lean (pad a) i
 
 -- "each greater than the one before": the first n columns of a row rise
 abbrev pub Rising : ℕ → (ℕ → ℤ) → Type 0

@@ -1,0 +1,4 @@
+pub mod Misfit
+pub mod Least
+pub mod Offsets
+pub mod Stretch

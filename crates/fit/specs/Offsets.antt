@@ -1,0 +1,71 @@
+-- The offset range at a separation (01, "Rules of fit"; refusals 1 to 6, then 11).
+use mathlib.Core.Bool.{Bool, true, false}
+use mathlib.Core.Path.{_≡_}
+use mathlib.Core.List.{List}
+use mathlib.Core.Logic.{_↔_}
+use Prim.Native.Nat.{ℕ, _-_, _≤_, _<_}
+use lib.Dec.{ltb}
+use lib.ListN.{length}
+use lib.IntN.{ℤ}
+use lib.Signed.{ltZ, _<ℤ_, _≤ℤ_}
+use Rattle.whole.specs.Pick.{largestAt, smallestAt}
+use Rattle.wiring.specs.Wiring.{HasWiring}
+use Rattle.wiring.specs.Fit.{leanOf, lowEnd, highEnd}
+use Rattle.jumper.specs.Refusals.{refusalNumbers}
+use Rattle.jumper.specs.Asked.{checkTracks, AcceptedTracks}
+use Rattle.jumper.specs.Range.{Within, wholeRange}
+use Rattle.jumper.specs.declared.refusal.Numbers.{Numbers}
+use Rattle.jumper.specs.declared.refusal.Refusal.{Refusal}
+use Rattle.jumper.specs.declared.refusal.Refusal.the-variants.{NoOffset}
+use Rattle.jumper.specs.declared.rows.Checked.{Checked}
+use Rattle.jumper.specs.declared.rows.Checked.the-variants.{Accepted, Refused}
+use Rattle.jumper.specs.declared.range.OffsetRange.{OffsetRange}
+use Rattle.fit.specs.declared.offsets.Offsets.{Offsets}
+use Rattle.fit.specs.declared.offsets.Offsets.the-variants.{Range, Refused as NoRange}
+
+abbrev pub offsetsNumbers : Offsets → Numbers
+offsetsNumbers (Range r) = record { refusal = 0; place = 0; second = 0; separation = 0; lowest = r .low; highest = r .high; pair = 0; side = 0; count = 0 }
+offsetsNumbers (NoRange r) = refusalNumbers r
+
+-- the first pair that sets each end, among n pairs with s < n
+abbrev pub lowestAt : (n : ℕ) (x y : ℕ → ℤ) (s : ℕ) → ℕ
+lowestAt n x y s = largestAt (lowEnd x y s) (n - s - 1)
+
+abbrev pub highestAt : (n : ℕ) (x y : ℕ → ℤ) (s : ℕ) → ℕ
+highestAt n x y s = smallestAt (highEnd x y s) (n - s - 1)
+
+-- "the greatest x_i - y_(i+s) up to the least x_(i+s) - y_i", for s < n
+abbrev pub rangeOf : (n : ℕ) (x y : ℕ → ℤ) (s : ℕ) → OffsetRange
+rangeOf n x y s = record { low = lowEnd x y s (lowestAt n x y s); high = highEnd x y s (highestAt n x y s) }
+
+abbrev pub pickOffsets : Bool → Offsets → Offsets → Offsets
+pickOffsets true q r = q
+pickOffsets false q r = r
+
+-- "For s >= n the range given is that of the accepted offsets."
+abbrev pub rangeFound : (n : ℕ) (x y : ℕ → ℤ) (s : ℕ) → Offsets
+rangeFound n x y s =
+    pickOffsets (ltb s n)
+    (pickOffsets (ltZ (rangeOf n x y s .high) (rangeOf n x y s .low)) (NoRange (NoOffset (lowestAt n x y s) (highestAt n x y s))) (Range (rangeOf n x y s)))
+    (Range wholeRange)
+
+abbrev pub unlessRefused : Checked → Offsets → Offsets
+unlessRefused Accepted q = q
+unlessRefused (Refused r) q = NoRange r
+
+abbrev pub offsetsAnswer : (a b : List ℤ) (s : ℕ) → Offsets
+offsetsAnswer a b s = unlessRefused (checkTracks a b s) (rangeFound (length a) (leanOf a) (leanOf b) s)
+
+-- the range that the numbers name
+abbrev pub rangeNamed : Numbers → OffsetRange
+rangeNamed k = record { low = k .lowest; high = k .highest }
+
+-- What `range_at` promises. For s < n the range holds exactly the offsets at which a legal wiring exists, and some; for s >= n every
+-- whole-number offset has one. NOOFFSET, exactly when no whole-number offset has one, names the first pair that sets each end.
+pub record OffsetsAnswer (a b : List ℤ) (s : ℕ) (r : Offsets) : Type 0 where
+  pub answer : r ≡ offsetsAnswer a b s
+  pub asked : ((offsetsNumbers r .refusal ≡ 0) → AcceptedTracks a b s) × ((offsetsNumbers r .refusal ≡ 11) → AcceptedTracks a b s)
+  pub some : offsetsNumbers r .refusal ≡ 0 → offsetsNumbers r .lowest ≤ℤ offsetsNumbers r .highest
+  pub exactly : offsetsNumbers r .refusal ≡ 0 → s < length a → (d : ℤ) → HasWiring a b s d ↔ Within d (rangeNamed (offsetsNumbers r))
+  pub every : offsetsNumbers r .refusal ≡ 0 → length a ≤ s → (rangeNamed (offsetsNumbers r) ≡ wholeRange) × ((d : ℤ) → HasWiring a b s d)
+  pub none : (offsetsNumbers r .refusal ≡ 11) ↔ (AcceptedTracks a b s × ((d : ℤ) → HasWiring a b s d → ⊥))

@@ -1,0 +1,31 @@
+-- The stretch at fault (01): "for a misfit, the pads i to i+s of the row in which they span fewer columns (last less first), the bottom row if
+-- equal .. In every other case it is an empty part at the bottom row's start."
+use mathlib.Core.Bool.{cond}
+use mathlib.Core.List.{List, []}
+use Prim.Native.Nat.{ℕ, _+_}
+use lib.ListN.{take, drop}
+use lib.IntN.{ℤ, _-ℤ_}
+use lib.Signed.{leZ}
+use Rattle.wiring.specs.Wiring.{pad}
+use Rattle.jumper.specs.declared.rows.Checked.{Checked}
+use Rattle.jumper.specs.declared.rows.Checked.the-variants.{Accepted, Refused}
+use Rattle.jumper.specs.Asked.{checkAsked}
+use Rattle.fit.specs.Misfit.{misfitOf}
+use Rattle.fit.specs.declared.misfit.Misfit.{Misfit}
+use Rattle.fit.specs.declared.misfit.Misfit.the-variants.{None, At}
+
+abbrev pub span : List ℤ → ℕ → ℕ → ℤ
+span a i s = pad a (i + s) -ℤ pad a i
+
+-- pads i to i + s of the narrower row
+abbrev pub narrower : (a b : List ℤ) (i s : ℕ) → List ℤ
+narrower a b i s = cond (leZ (span a i s) (span b i s)) (take (s + 1) (drop i a)) (take (s + 1) (drop i b))
+
+-- after the checks 1 to 7 and the search for a misfit
+abbrev pub stretchAfter : Checked → Misfit → (a b : List ℤ) (s : ℕ) → List ℤ
+stretchAfter (Refused r) m a b s = []
+stretchAfter Accepted None a b s = []
+stretchAfter Accepted (At i k) a b s = narrower a b i s
+
+abbrev pub stretchOf : (a b : List ℤ) (s : ℕ) (d : ℤ) → List ℤ
+stretchOf a b s d = stretchAfter (checkAsked a b s d) (misfitOf a b s d) a b s

@@ -1,0 +1,63 @@
+// The witness of a misfit, and the question whether a separation and an offset fit.
+ghost use mathlib.Core.Path.{_≡_};
+ghost use Prim.Native.Nat.{_+_, _≤_, _<_};
+ghost use lib.ListN.{length};
+ghost use Rattle.wiring.specs.Fit.{leanOf};
+ghost use Rattle.jumper.specs.Asked.{Asked, AcceptedShift};
+ghost use Rattle.fit.specs.Misfit.{tooRight, tooLeft, misfitOf, FitAnswer};
+
+use jumper::asked::check_asked;
+use jumper::refusal::{Refusal, Side};
+use jumper::rows::Checked;
+
+// The least pair that breaks the rule of fit, and on which side.
+pub enum Misfit {
+    None,
+    At(usize, Side),
+}
+
+pub(crate) fn too_right(a: &[i32], b: &[i32], s: usize, d: i32, i: usize) -> bool
+    requires { ⌜ AcceptedShift (now a) (now b) d × (i + s < length (now a)) ⌝ }
+    ensures { λ r. ⌜ r ≡ tooRight (leanOf (now (a .entry))) (leanOf (now (b .entry))) s d i ⌝ }
+{
+    a[i + s] < b[i] + d + s as i32
+}
+
+pub(crate) fn too_left(a: &[i32], b: &[i32], s: usize, d: i32, i: usize) -> bool
+    requires { ⌜ AcceptedShift (now a) (now b) d × (i + s < length (now a)) ⌝ }
+    ensures { λ r. ⌜ r ≡ tooLeft (leanOf (now (a .entry))) (leanOf (now (b .entry))) s d i ⌝ }
+{
+    b[i + s] + d < a[i] + s as i32
+}
+
+// The search for the least misfit: it serves `fit`, the witness below a least separation, and the stretch.
+pub(crate) fn first_misfit(a: &[i32], b: &[i32], s: usize, d: i32) -> Misfit
+    requires { ⌜ Asked (now a) (now b) s d ⌝ }
+    ensures { λ r. ⌜ r ≡ misfitOf (now (a .entry)) (now (b .entry)) s d ⌝ }
+{
+    let n = a.len();
+    let mut i: usize = 0;
+    while i + s < n {
+        if too_right(a, b, s, d, i) {
+            return Misfit::At(i, Side::Right);
+        }
+        if too_left(a, b, s, d, i) {
+            return Misfit::At(i, Side::Left);
+        }
+        i += 1;
+    }
+    Misfit::None
+}
+
+// Whether a legal wiring exists at separation s and offset d: refusals 1 to 7, then NOFIT.
+pub fn fit(a: &[i32], b: &[i32], s: usize, d: i32) -> Checked
+    ensures { λ r. ⌜ FitAnswer (now (a .entry)) (now (b .entry)) s d r ⌝ }
+{
+    match check_asked(a, b, s, d) {
+        Checked::Refused(r) => Checked::Refused(r),
+        Checked::Accepted => match first_misfit(a, b, s, d) {
+            Misfit::None => Checked::Accepted,
+            Misfit::At(i, side) => Checked::Refused(Refusal::NoFit(i, side)),
+        },
+    }
+}

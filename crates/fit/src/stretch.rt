@@ -1,0 +1,42 @@
+// The stretch at fault: the part of the caller's own row that a misfit spans.
+ghost use mathlib.Core.Path.{_≡_};
+ghost use Prim.Native.Nat.{_+_, _<_};
+ghost use lib.ListN.{length};
+ghost use Rattle.jumper.specs.Rows.{AcceptedRow, AcceptedRows};
+ghost use Rattle.fit.specs.Stretch.{span, narrower, stretchOf};
+
+use jumper::asked::check_asked;
+use jumper::rows::Checked;
+use crate::misfit::{Misfit, first_misfit};
+
+// How many columns pads i to i + s of a row span.
+fn span_of(a: &[i32], i: usize, s: usize) -> i32
+    requires { ⌜ AcceptedRow (now a) × (i + s < length (now a)) ⌝ }
+    ensures { λ r. ⌜ r ≡ span (now (a .entry)) i s ⌝ }
+{
+    a[i + s] - a[i]
+}
+
+pub fn stretch<'a>(a: &'a [i32], b: &'a [i32], s: usize, d: i32) -> &'a [i32]
+    ensures { λ r. ⌜ now r ≡ stretchOf (now (a .entry)) (now (b .entry)) s d ⌝ }
+{
+    match check_asked(a, b, s, d) {
+        Checked::Refused(_) => &a[..0],
+        Checked::Accepted => match first_misfit(a, b, s, d) {
+            Misfit::None => &a[..0],
+            Misfit::At(i, _) => narrower_of(a, b, i, s),
+        },
+    }
+}
+
+// Pads i to i + s of the row in which they span fewer columns.
+fn narrower_of<'a>(a: &'a [i32], b: &'a [i32], i: usize, s: usize) -> &'a [i32]
+    requires { ⌜ AcceptedRows (now a) (now b) × (i + s < length (now a)) ⌝ }
+    ensures { λ r. ⌜ now r ≡ narrower (now (a .entry)) (now (b .entry)) i s ⌝ }
+{
+    let e = i + s + 1;
+    if span_of(a, i, s) <= span_of(b, i, s) {
+        return &a[i..e];
+    }
+    &b[i..e]
+}

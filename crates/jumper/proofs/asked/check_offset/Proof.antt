@@ -1,0 +1,30 @@
+use mir.Syntax.{w32}
+use mir.ValLaws.{toZ-ofZ}
+use mathlib.Core.Path.{_≡_, sym, _∙_}
+use Rattle.jumper.proofs.Checks.{or-first, or-second, offset-check}
+use borrow.Author.Needs.{needs}
+use Rattle.jumper.proofs.asked.check_offset.Statement.{statement}
+use Rattle.jumper.proofs.asked.check_offset.Tie as tie
+
+check-rows-requires : tie.Need-check-rows-requires
+check-rows-requires c κs = search needs
+
+enum-told : tie.Need-enum-told
+enum-told c = search needs
+
+offset-fault-requires : tie.Need-offset-fault-requires
+offset-fault-requires c κs = search needs
+
+enum-known-r : tie.Need-enum-known-r
+enum-known-r c = search needs
+
+returns : tie.Need-returns
+returns c = offset-check _ _ _ _ (or-second _ _ _ (sym (c .before .before .before .check-rows .ensures .answer) ∙ c .before .enum-told .given .1) (rw (toZ-ofZ w32 (c .before .before .before .before .args .d) (c .before .before .before .before .fits .d)) at (c .offset-fault .ensures)))
+
+returns-2 : tie.Need-returns-2
+returns-2 c = offset-check _ _ _ _ (or-first _ _ _ (sym (c .before .before .before .check-rows .ensures .answer) ∙ c .before .r .given .1))
+
+pub check-offset-spec : {M : Type 1} → statement M
+check-offset-spec =
+    tie.close
+    (tie.spec check-rows-requires enum-told offset-fault-requires enum-known-r returns returns-2)
