@@ -3,17 +3,17 @@ use mathlib.Core.Bool.{Bool, true, false}
 use mathlib.Core.Path.{_≡_}
 use mathlib.Core.List.{List}
 use mathlib.Core.Logic.{_↔_}
-use Prim.Native.Nat.{ℕ, _-_, _≤_, _<_}
+use Prim.Native.Nat.{ℕ, _≤_, _<_}
 use lib.Dec.{ltb}
 use lib.ListN.{length}
 use lib.IntN.{ℤ}
 use lib.Signed.{ltZ, _<ℤ_, _≤ℤ_}
-use Rattle.whole.specs.Pick.{largestAt, smallestAt}
 use Rattle.wiring.specs.Wiring.{HasWiring}
-use Rattle.wiring.specs.Fit.{leanOf, lowEnd, highEnd}
+use Rattle.wiring.specs.Fit.{leanOf}
 use Rattle.jumper.specs.Refusals.{refusalNumbers}
 use Rattle.jumper.specs.Asked.{checkTracks, AcceptedTracks}
 use Rattle.jumper.specs.Range.{Within, wholeRange}
+use Rattle.jumper.specs.Span.{lowestAt, highestAt, rangeOf}
 use Rattle.jumper.specs.declared.refusal.Numbers.{Numbers}
 use Rattle.jumper.specs.declared.refusal.Refusal.{Refusal}
 use Rattle.jumper.specs.declared.refusal.Refusal.the-variants.{NoOffset}
@@ -26,17 +26,6 @@ use Rattle.fit.specs.declared.offsets.Offsets.the-variants.{Range, Refus
 abbrev pub offsetsNumbers : Offsets → Numbers
 offsetsNumbers (Range r) = record { refusal = 0; place = 0; second = 0; separation = 0; lowest = r .low; highest = r .high; pair = 0; side = 0; count = 0 }
 offsetsNumbers (NoRange r) = refusalNumbers r
-
--- the first pair that sets each end, among n pairs with s < n
-abbrev pub lowestAt : (n : ℕ) (x y : ℕ → ℤ) (s : ℕ) → ℕ
-lowestAt n x y s = largestAt (lowEnd x y s) (n - s - 1)
-
-abbrev pub highestAt : (n : ℕ) (x y : ℕ → ℤ) (s : ℕ) → ℕ
-highestAt n x y s = smallestAt (highEnd x y s) (n - s - 1)
-
--- "the greatest x_i - y_(i+s) up to the least x_(i+s) - y_i", for s < n
-abbrev pub rangeOf : (n : ℕ) (x y : ℕ → ℤ) (s : ℕ) → OffsetRange
-rangeOf n x y s = record { low = lowEnd x y s (lowestAt n x y s); high = highEnd x y s (highestAt n x y s) }
 
 abbrev pub pickOffsets : Bool → Offsets → Offsets → Offsets
 pickOffsets true q r = q

@@ -5,11 +5,14 @@ ghost use lib.ListN.{length};
 ghost use Rattle.wiring.specs.Fit.{leanOf};
 ghost use Rattle.jumper.specs.Asked.{AcceptedShift};
 ghost use Rattle.fit.specs.Least.{breaksAt, leastOf, LeastAnswer};
-
+use crate::misfit::Misfit;
+use crate::misfit::first_misfit;
+use crate::misfit::too_left;
+use crate::misfit::too_right;
 use jumper::asked::check_offset;
-use jumper::refusal::{Refusal, Side};
+use jumper::refusal::Refusal;
+use jumper::refusal::Side;
 use jumper::rows::Checked;
-use crate::misfit::{Misfit, first_misfit, too_left, too_right};
 
 pub enum Least {
     // Separation 0: every top pad stands straight above its bottom pad.

@@ -5,9 +5,9 @@ ghost use lib.ListN.{length};
 ghost use Rattle.wiring.specs.Fit.{leanOf};
 ghost use Rattle.jumper.specs.Asked.{Asked, AcceptedShift};
 ghost use Rattle.fit.specs.Misfit.{tooRight, tooLeft, misfitOf, FitAnswer};
-
 use jumper::asked::check_asked;
-use jumper::refusal::{Refusal, Side};
+use jumper::refusal::Refusal;
+use jumper::refusal::Side;
 use jumper::rows::Checked;
 
 // The least pair that breaks the rule of fit, and on which side.

@@ -5,7 +5,6 @@ ghost use lib.ListN.{length};
 ghost use Rattle.wiring.specs.Fit.{leanOf, lowEnd, highEnd};
 ghost use Rattle.jumper.specs.Asked.{AcceptedTracks};
 ghost use Rattle.fit.specs.Offsets.{rangeFound, OffsetsAnswer};
-
 use jumper::asked::check_tracks;
 use jumper::range::OffsetRange;
 use jumper::refusal::Refusal;

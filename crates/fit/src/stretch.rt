@@ -4,10 +4,10 @@ ghost use Prim.Native.Nat.{_+_, _<_};
 ghost use lib.ListN.{length};
 ghost use Rattle.jumper.specs.Rows.{AcceptedRow, AcceptedRows};
 ghost use Rattle.fit.specs.Stretch.{span, narrower, stretchOf};
-
+use crate::misfit::Misfit;
+use crate::misfit::first_misfit;
 use jumper::asked::check_asked;
 use jumper::rows::Checked;
-use crate::misfit::{Misfit, first_misfit};
 
 // How many columns pads i to i + s of a row span.
 fn span_of(a: &[i32], i: usize, s: usize) -> i32

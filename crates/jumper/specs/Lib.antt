@@ -3,3 +3,4 @@ pub mod Refusals
 pub mod Rows
 pub mod Asked
 pub mod Range
+pub mod Span
