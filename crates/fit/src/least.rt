@@ -4,14 +4,16 @@ ghost use Prim.Native.Nat.{_+_, _-_, _≤_, _<_};
 ghost use lib.ListN.{length};
 ghost use Rattle.wiring.specs.Fit.{leanOf};
 ghost use Rattle.jumper.specs.Asked.{AcceptedShift};
-ghost use Rattle.fit.specs.Least.{breaksAt, leastOf, LeastAnswer};
+ghost use Rattle.fit.specs.Least.{leastNumbers, breaksAt, leastOf, LeastAnswer};
 use crate::misfit::Misfit;
 use crate::misfit::first_misfit;
 use crate::misfit::too_left;
 use crate::misfit::too_right;
 use jumper::asked::check_offset;
+use jumper::refusal::Numbers;
 use jumper::refusal::Refusal;
 use jumper::refusal::Side;
+use jumper::refusal::carrying;
 use jumper::rows::Checked;
 
 pub enum Least {
@@ -20,6 +22,28 @@ pub enum Least {
     // The least separation, above 0, and the witness at one track fewer.
     Tracks(usize, usize, Side),
     Refused(Refusal),
+}
+
+impl Least {
+    pub fn numbers(self) -> Numbers
+        ensures { λ r. ⌜ r ≡ leastNumbers self ⌝ }
+    {
+        match self {
+            Least::Straight => carrying(0, 0, 0, 0, 0),
+            Least::Tracks(s, i, side) => Numbers {
+                refusal: 0,
+                place: 0,
+                second: 0,
+                separation: s,
+                lowest: 0,
+                highest: 0,
+                pair: i,
+                side: side.number(),
+                count: 0,
+            },
+            Least::Refused(r) => r.numbers(),
+        }
+    }
 }
 
 // The least separation at which a legal wiring exists at offset d: refusals 1 to 5, then 7.

@@ -5,9 +5,10 @@ ghost use lib.ListN.{length};
 ghost use Rattle.wiring.specs.Fit.{leanOf, lowEnd, highEnd};
 ghost use Rattle.jumper.specs.Asked.{AcceptedTracks};
 ghost use Rattle.jumper.specs.Span.{lowestAt, highestAt, rangeOf};
-ghost use Rattle.fit.specs.Offsets.{rangeFound, OffsetsAnswer};
+ghost use Rattle.fit.specs.Offsets.{offsetsNumbers, rangeFound, OffsetsAnswer};
 use jumper::asked::check_tracks;
 use jumper::range::OffsetRange;
+use jumper::refusal::Numbers;
 use jumper::refusal::Refusal;
 use jumper::rows::Checked;
 use whole::larger;
@@ -16,6 +17,27 @@ use whole::smaller;
 pub enum Offsets {
     Range(OffsetRange),
     Refused(Refusal),
+}
+
+impl Offsets {
+    pub fn numbers(self) -> Numbers
+        ensures { λ r. ⌜ r ≡ offsetsNumbers self ⌝ }
+    {
+        match self {
+            Offsets::Range(r) => Numbers {
+                refusal: 0,
+                place: 0,
+                second: 0,
+                separation: 0,
+                lowest: r.low,
+                highest: r.high,
+                pair: 0,
+                side: 0,
+                count: 0,
+            },
+            Offsets::Refused(r) => r.numbers(),
+        }
+    }
 }
 
 // The offsets at which a legal wiring exists at separation s: refusals 1 to 6, then NOOFFSET.

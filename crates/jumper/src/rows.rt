@@ -3,16 +3,29 @@ ghost use mathlib.Core.Path.{_≡_};
 ghost use Prim.Native.Nat.{_≤_};
 ghost use lib.ListN.{length};
 ghost use Rattle.jumper.specs.Limits.{maxPairs};
-ghost use Rattle.jumper.specs.Rows.{rowFault, RowCheck};
+ghost use Rattle.jumper.specs.Rows.{checkedNumbers, rowFault, RowCheck};
 use crate::limits::FIRST_COLUMN;
 use crate::limits::LAST_COLUMN;
 use crate::limits::MAX_PAIRS;
+use crate::refusal::Numbers;
 use crate::refusal::Refusal;
+use crate::refusal::carrying;
 
 // The answer of every check: no fault, or the first.
 pub enum Checked {
     Accepted,
     Refused(Refusal),
+}
+
+impl Checked {
+    pub fn numbers(self) -> Numbers
+        ensures { λ r. ⌜ r ≡ checkedNumbers self ⌝ }
+    {
+        match self {
+            Checked::Accepted => carrying(0, 0, 0, 0, 0),
+            Checked::Refused(r) => r.numbers(),
+        }
+    }
 }
 
 // The first fault of a row whose first column has the place `base`.
