@@ -15,16 +15,14 @@ pub(crate) fn try_at(x: &[i32], y: &[i32], s: usize) -> Trial
     let last = x.len() - s - 1;
     let mut low = x[0] - y[s];
     let mut high = x[s] - y[0];
-    let mut count: usize = 2;
     let mut i: usize = 0;
     while i < last {
         i += 1;
         low = whole::larger(low, x[i] - y[i + s]);
         high = whole::smaller(high, x[i + s] - y[i]);
-        count += 2;
     }
     Trial {
         range: OffsetRange { low, high },
-        count,
+        count: 2 * (i + 1),
     }
 }

@@ -1,0 +1,39 @@
+use borrow.Author.Needs.{needs}
+use Rattle.best.proofs.level.count_levels.Statement.{statement}
+use Rattle.best.proofs.level.count_levels.Tie as tie
+use Rattle.best.proofs.level.count_levels.Reads as reads
+use Rattle.best.proofs.level.count_levels.Lts as lts
+
+abbrev Inv-loop : tie.InvT-loop
+Inv-loop n m₀ count₀ m count = Unit {0}
+
+abbrev μ-loop : tie.MeasureT-loop
+μ-loop n m₀ count₀ m count = ?
+
+-- src/level.rt:91:5
+loop-holds : tie.Need-loop-holds Inv-loop μ-loop
+loop-holds c = search needs
+
+-- src/level.rt:92:14
+add-m : tie.Need-add-m Inv-loop μ-loop
+add-m c = search needs
+
+-- src/level.rt:93:9
+add-count : tie.Need-add-count Inv-loop μ-loop
+add-count c = search needs
+
+-- src/level.rt:91:5
+loop-less : tie.Need-loop-less Inv-loop μ-loop
+loop-less c = search needs
+
+-- src/level.rt:91:5
+loop-again : tie.Need-loop-again Inv-loop μ-loop
+loop-again c = search needs
+
+-- src/level.rt:85:1
+returns : tie.Need-returns Inv-loop μ-loop
+returns c = search needs
+
+pub count-levels-spec : {M : Type 1} → statement M
+count-levels-spec =
+    tie.close (tie.spec Inv-loop μ-loop loop-holds add-m add-count loop-less loop-again returns)

@@ -1,0 +1,83 @@
+use borrow.Author.Needs.{needs}
+use Rattle.best.proofs.plan.halve_in.Statement.{statement}
+use Rattle.best.proofs.plan.halve_in.Tie as tie
+use Rattle.best.proofs.plan.halve_in.Reads as reads
+use Rattle.best.proofs.plan.halve_in.Lts as lts
+use Rattle.best.proofs.climb.climb.Reads as climb-reads
+use Rattle.best.proofs.plan.kept_or_read.Reads as kept-or-read-reads
+use Rattle.best.proofs.rows.lower.Reads as lower-reads
+
+-- src/plan.rt:102:5
+lower-requires : tie.Need-lower-requires
+lower-requires c κs = search needs
+
+-- src/plan.rt:103:5
+lower-requires-2 : tie.Need-lower-requires-2
+lower-requires-2 c κs = search needs
+
+-- src/plan.rt:104:9
+climb-requires : tie.Need-climb-requires
+climb-requires c κs = search needs
+
+-- src/plan.rt:105:30
+slice-reshare-prefix-kept-or-read : tie.Need-slice-reshare-prefix-kept-or-read
+slice-reshare-prefix-kept-or-read c = search needs
+
+-- src/plan.rt:105:30
+slice-aggregate-kept-or-read : tie.Need-slice-aggregate-kept-or-read
+slice-aggregate-kept-or-read c = search needs
+
+-- src/plan.rt:105:39
+slice-reshare-prefix-kept-or-read-2 : tie.Need-slice-reshare-prefix-kept-or-read-2
+slice-reshare-prefix-kept-or-read-2 c = search needs
+
+-- src/plan.rt:105:39
+slice-aggregate-kept-or-read-2 : tie.Need-slice-aggregate-kept-or-read-2
+slice-aggregate-kept-or-read-2 c = search needs
+
+-- src/plan.rt:105:9
+kept-or-read-requires : tie.Need-kept-or-read-requires
+kept-or-read-requires c κs = search needs
+
+-- src/plan.rt:97:1
+same-length : tie.Need-same-length
+same-length c = search needs
+
+-- src/plan.rt:97:1
+same-length-2 : tie.Need-same-length-2
+same-length-2 c = search needs
+
+-- src/plan.rt:97:1
+same-length-3 : tie.Need-same-length-3
+same-length-3 c = search needs
+
+-- src/plan.rt:97:1
+same-length-4 : tie.Need-same-length-4
+same-length-4 c = search needs
+
+-- src/plan.rt:97:1
+same-length-5 : tie.Need-same-length-5
+same-length-5 c = search needs
+
+-- src/plan.rt:97:1
+returns : tie.Need-returns
+returns c = search needs
+
+pub halve-in-spec : {M : Type 1} → statement M
+halve-in-spec =
+    tie.close
+    (tie.spec
+    lower-requires
+    lower-requires-2
+    climb-requires
+    slice-reshare-prefix-kept-or-read
+    slice-aggregate-kept-or-read
+    slice-reshare-prefix-kept-or-read-2
+    slice-aggregate-kept-or-read-2
+    kept-or-read-requires
+    same-length
+    same-length-2
+    same-length-3
+    same-length-4
+    same-length-5
+    returns)
