@@ -1,6 +1,10 @@
 // A trial: the range at one separation, and how many differences were read for it.
 ghost use mathlib.Core.Path.{_≡_};
-ghost use Rattle.best.specs.Work.{Triable, trialOf};
+ghost use Prim.Native.Nat.{_<_};
+ghost use lib.ListN.{length};
+ghost use lib.IntN.{_-ℤ_};
+ghost use Rattle.wiring.specs.Wiring.{pad};
+ghost use Rattle.best.specs.Work.{Pairs, Triable, trialOf};
 use jumper::range::OffsetRange;
 
 pub(crate) struct Trial {
@@ -8,18 +12,27 @@ pub(crate) struct Trial {
     pub(crate) count: usize,
 }
 
+// x_i - y_j.
+fn difference(x: &[i32], i: usize, y: &[i32], j: usize) -> i32
+    requires { ⌜ Pairs (now x) (now y) × (i < length (now x)) × (j < length (now x)) ⌝ }
+    ensures { λ r. ⌜ r ≡ pad (now (x .entry)) i -ℤ pad (now (y .entry)) j ⌝ }
+{
+    x[i] - y[j]
+}
+
+// Two differences are read for pair 0 and two more in each round, so the count is told by the rounds that were made.
 pub(crate) fn try_at(x: &[i32], y: &[i32], s: usize) -> Trial
     requires { ⌜ Triable (now x) (now y) s ⌝ }
     ensures { λ r. ⌜ r ≡ trialOf (now (x .entry)) (now (y .entry)) s ⌝ }
 {
     let last = x.len() - s - 1;
-    let mut low = x[0] - y[s];
-    let mut high = x[s] - y[0];
+    let mut low = difference(x, 0, y, s);
+    let mut high = difference(x, s, y, 0);
     let mut i: usize = 0;
     while i < last {
         i += 1;
-        low = whole::larger(low, x[i] - y[i + s]);
-        high = whole::smaller(high, x[i + s] - y[i]);
+        low = whole::larger(low, difference(x, i, y, i + s));
+        high = whole::smaller(high, difference(x, i + s, y, i));
     }
     Trial {
         range: OffsetRange { low, high },

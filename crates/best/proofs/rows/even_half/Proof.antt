@@ -1,14 +1,23 @@
+use mathlib.Core.Path.{_≡_, refl}
+use Prim.Native.Nat.{ℕ, _+_, _-_, _*_, _≤_}
+use native.Mathlib.Omega.{arith}
 use borrow.Author.Needs.{needs}
+use lib.ListN.{length, length-set}
+use Rattle.whole.proofs.Machine.{back}
+use Rattle.wiring.specs.Wiring.{pad}
+use Rattle.wiring.specs.Fit.{evens, half}
+use Rattle.best.specs.Work.{Filled}
+use Rattle.best.proofs.Fill.{none-filled, one-filled}
 use Rattle.best.proofs.rows.even_half.Statement.{statement}
 use Rattle.best.proofs.rows.even_half.Tie as tie
 use Rattle.best.proofs.rows.even_half.Reads as reads
 use Rattle.best.proofs.rows.even_half.Lts as lts
 
 abbrev Inv-loop : tie.InvT-loop
-Inv-loop x out₀ k i₀ out i = Unit {0}
+Inv-loop x out₀ k i₀ out i = (i ≤ k) × ((length out ≡ length out₀) × Filled (evens (pad x)) i out)
 
 abbrev μ-loop : tie.MeasureT-loop
-μ-loop x out₀ k i₀ out i = ?
+μ-loop x out₀ k i₀ out i = k - i
 
 -- src/rows.rt:28:14
 add-k : tie.Need-add-k Inv-loop μ-loop
@@ -16,7 +25,7 @@ add-k c = search needs
 
 -- src/rows.rt:30:5
 loop-holds : tie.Need-loop-holds Inv-loop μ-loop
-loop-holds c = search needs
+loop-holds c = (search needs, (refl, none-filled (evens (pad (c .args .x .now))) (c .args .out .now)))
 
 -- src/rows.rt:31:20
 mul-out : tie.Need-mul-out Inv-loop μ-loop
@@ -48,7 +57,11 @@ loop-less c = search needs
 
 -- src/rows.rt:30:5
 loop-again : tie.Need-loop-again Inv-loop μ-loop
-loop-again c = search needs
+loop-again c =
+    let k = c .before .before in
+    let x = k .before .args .x .now in
+    let i = k .loop .i in
+    (omega arith, (simp length-set (k .loop .inv .1 .0), one-filled (evens (pad x)) i (k .loop .out) _ (k .loop .inv .1 .1) (omega arith) (back (pad x (2 * i)) (c .out .given))))
 
 -- src/rows.rt:24:1
 same-length : tie.Need-same-length Inv-loop μ-loop
@@ -56,7 +69,10 @@ same-length c = search needs
 
 -- src/rows.rt:24:1
 returns : tie.Need-returns Inv-loop μ-loop
-returns c = search needs
+returns c =
+    let k = c .before in
+    let e : k .loop .i ≡ half (length (k .before .args .x .now)) = omega arith in
+    rw e at (k .loop .inv .1 .1)
 
 pub even-half-spec : {M : Type 1} → statement M
 even-half-spec =

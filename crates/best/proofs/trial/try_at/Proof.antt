@@ -1,136 +1,120 @@
+use mathlib.Core.Path.{_≡_, refl, sym, ap, _∙_}
+use Prim.Native.Nat.{ℕ, _+_, _-_, _*_, _≤_}
+use native.Mathlib.Omega.{arith}
 use borrow.Author.Needs.{needs}
+use lib.ListN.{length}
+use mir.Syntax.{w32}
+use mir.Val.{toZ}
+use Rattle.whole.specs.Pick.{largest, smallest}
+use Rattle.whole.proofs.Machine.{back}
+use Rattle.wiring.specs.Wiring.{pad}
+use Rattle.wiring.specs.Fit.{lowEnd, highEnd}
+use Rattle.best.proofs.Ends.{larger-step, smaller-step, low-first, high-first, trial-read}
 use Rattle.best.proofs.trial.try_at.Statement.{statement}
 use Rattle.best.proofs.trial.try_at.Tie as tie
 use Rattle.best.proofs.trial.try_at.Reads as reads
 use Rattle.best.proofs.trial.try_at.Lts as lts
+use Rattle.best.proofs.trial.difference.Reads as difference-reads
 use Rattle.whole.proofs.larger.Reads as larger-reads
 use Rattle.whole.proofs.smaller.Reads as smaller-reads
 
 abbrev Inv-loop : tie.InvT-loop
-Inv-loop x y s last low₀ high₀ count₀ i₀ low high count i = Unit {0}
+Inv-loop x y s last low₀ high₀ i₀ low high i = 
+    (i ≤ last)
+    × ((toZ w32 low ≡ largest (lowEnd (pad x) (pad y) s) i)
+    × (toZ w32 high ≡ smallest (highEnd (pad x) (pad y) s) i))
 
 abbrev μ-loop : tie.MeasureT-loop
-μ-loop x y s last low₀ high₀ count₀ i₀ low high count i = ?
+μ-loop x y s last low₀ high₀ i₀ low high i = last - i
 
--- src/trial.rt:15:16
+-- src/trial.rt:28:16
 sub-last : tie.Need-sub-last Inv-loop μ-loop
 sub-last c = search needs
 
--- src/trial.rt:15:16
+-- src/trial.rt:28:16
 sub-last-2 : tie.Need-sub-last-2 Inv-loop μ-loop
 sub-last-2 c = search needs
 
--- src/trial.rt:16:19
-shared-slice-copy-out-low : tie.Need-shared-slice-copy-out-low Inv-loop μ-loop
-shared-slice-copy-out-low c = search needs
+-- src/trial.rt:29:9
+difference-requires : tie.Need-difference-requires Inv-loop μ-loop
+difference-requires c κs = search needs
 
--- src/trial.rt:16:26
-mul-low : tie.Need-mul-low Inv-loop μ-loop
-mul-low c = search needs
+-- src/trial.rt:30:9
+difference-requires-2 : tie.Need-difference-requires-2 Inv-loop μ-loop
+difference-requires-2 c κs = search needs
 
--- src/trial.rt:16:26
-shared-slice-copy-out-low-2 : tie.Need-shared-slice-copy-out-low-2 Inv-loop μ-loop
-shared-slice-copy-out-low-2 c = search needs
-
--- src/trial.rt:16:19
-sub-low : tie.Need-sub-low Inv-loop μ-loop
-sub-low c = search needs
-
--- src/trial.rt:17:20
-mul-high : tie.Need-mul-high Inv-loop μ-loop
-mul-high c = search needs
-
--- src/trial.rt:17:20
-shared-slice-copy-out-high : tie.Need-shared-slice-copy-out-high Inv-loop μ-loop
-shared-slice-copy-out-high c = search needs
-
--- src/trial.rt:17:27
-shared-slice-copy-out-high-2 : tie.Need-shared-slice-copy-out-high-2 Inv-loop μ-loop
-shared-slice-copy-out-high-2 c = search needs
-
--- src/trial.rt:17:20
-sub-high : tie.Need-sub-high Inv-loop μ-loop
-sub-high c = search needs
-
--- src/trial.rt:20:5
+-- src/trial.rt:32:5
 loop-holds : tie.Need-loop-holds Inv-loop μ-loop
-loop-holds c = search needs
+loop-holds c =
+    let l = c .before .difference in
+    let h = c .difference2 in
+    let a = c .before .before .args in
+    (omega arith, (back (l .result) (l .ok) ∙ l .ensures ∙ low-first (pad (a .x .now)) (pad (a .y .now)) (a .s), back (h .result) (h .ok) ∙ h .ensures ∙ high-first (pad (a .x .now)) (pad (a .y .now)) (a .s)))
 
--- src/trial.rt:21:9
+-- src/trial.rt:33:9
 add-i : tie.Need-add-i Inv-loop μ-loop
 add-i c = search needs
 
--- src/trial.rt:22:34
-mul-larger : tie.Need-mul-larger Inv-loop μ-loop
-mul-larger c = search needs
+-- src/trial.rt:34:54
+add-difference : tie.Need-add-difference Inv-loop μ-loop
+add-difference c = search needs
 
--- src/trial.rt:22:34
-shared-slice-copy-out-larger : tie.Need-shared-slice-copy-out-larger Inv-loop μ-loop
-shared-slice-copy-out-larger c = search needs
+-- src/trial.rt:34:34
+difference-requires-3 : tie.Need-difference-requires-3 Inv-loop μ-loop
+difference-requires-3 c κs = search needs
 
--- src/trial.rt:22:43
-add-larger : tie.Need-add-larger Inv-loop μ-loop
-add-larger c = search needs
-
--- src/trial.rt:22:41
-mul-larger-2 : tie.Need-mul-larger-2 Inv-loop μ-loop
-mul-larger-2 c = search needs
-
--- src/trial.rt:22:41
-shared-slice-copy-out-larger-2 : tie.Need-shared-slice-copy-out-larger-2 Inv-loop μ-loop
-shared-slice-copy-out-larger-2 c = search needs
-
--- src/trial.rt:22:34
-sub-larger : tie.Need-sub-larger Inv-loop μ-loop
-sub-larger c = search needs
-
--- src/trial.rt:22:9
+-- src/trial.rt:34:9
 larger-requires : tie.Need-larger-requires Inv-loop μ-loop
 larger-requires c κs = search needs
 
--- src/trial.rt:23:39
-add-smaller : tie.Need-add-smaller Inv-loop μ-loop
-add-smaller c = search needs
+-- src/trial.rt:35:51
+add-difference-2 : tie.Need-add-difference-2 Inv-loop μ-loop
+add-difference-2 c = search needs
 
--- src/trial.rt:23:37
-mul-smaller : tie.Need-mul-smaller Inv-loop μ-loop
-mul-smaller c = search needs
+-- src/trial.rt:35:37
+difference-requires-4 : tie.Need-difference-requires-4 Inv-loop μ-loop
+difference-requires-4 c κs = search needs
 
--- src/trial.rt:23:37
-shared-slice-copy-out-smaller : tie.Need-shared-slice-copy-out-smaller Inv-loop μ-loop
-shared-slice-copy-out-smaller c = search needs
-
--- src/trial.rt:23:48
-mul-smaller-2 : tie.Need-mul-smaller-2 Inv-loop μ-loop
-mul-smaller-2 c = search needs
-
--- src/trial.rt:23:48
-shared-slice-copy-out-smaller-2 : tie.Need-shared-slice-copy-out-smaller-2 Inv-loop μ-loop
-shared-slice-copy-out-smaller-2 c = search needs
-
--- src/trial.rt:23:37
-sub-smaller : tie.Need-sub-smaller Inv-loop μ-loop
-sub-smaller c = search needs
-
--- src/trial.rt:23:9
+-- src/trial.rt:35:9
 smaller-requires : tie.Need-smaller-requires Inv-loop μ-loop
 smaller-requires c κs = search needs
 
--- src/trial.rt:24:9
-add-count : tie.Need-add-count Inv-loop μ-loop
-add-count c = search needs
-
--- src/trial.rt:20:5
+-- src/trial.rt:32:5
 loop-less : tie.Need-loop-less Inv-loop μ-loop
 loop-less c = search needs
 
--- src/trial.rt:20:5
+-- src/trial.rt:32:5
 loop-again : tie.Need-loop-again Inv-loop μ-loop
-loop-again c = search needs
+loop-again c =
+    let g = c .before .before in
+    let l = g .before .difference3 in
+    let h = c .before .difference4 in
+    let k = g .before .before .before in
+    let a = k .before .before .before .args in
+    let i = k .loop .i in (
+      omega arith,
+      (
+        back (g .larger .result) (g .larger .ok)
+            ∙ larger-step (lowEnd (pad (a .x .now)) (pad (a .y .now)) (a .s)) i _ _ _ (k .loop .inv .1 .0) (back (l .result) (l .ok) ∙ l .ensures) (g .larger .ensures),
+        back (c .smaller .result) (c .smaller .ok)
+            ∙ smaller-step (highEnd (pad (a .x .now)) (pad (a .y .now)) (a .s)) i _ _ _ (k .loop .inv .1 .1) (back (h .result) (h .ok) ∙ h .ensures) (c .smaller .ensures),
+      ),
+    )
 
--- src/trial.rt:11:1
+-- src/trial.rt:39:21
+add-t8 : tie.Need-add-t8 Inv-loop μ-loop
+add-t8 c = search needs
+
+-- src/trial.rt:39:16
+mul-t9 : tie.Need-mul-t9 Inv-loop μ-loop
+mul-t9 c = search needs
+
+-- src/trial.rt:24:1
 returns : tie.Need-returns Inv-loop μ-loop
-returns c = search needs
+returns c =
+    let k = c .before in
+    let a = k .before .before .before .args in
+    trial-read (a .x .now) (a .y .now) (a .s) (k .loop .i) _ _ (k .before .before .before .pre .inside) (omega arith) (k .loop .inv .1 .0) (k .loop .inv .1 .1)
 
 pub try-at-spec : {M : Type 1} → statement M
 try-at-spec =
@@ -140,31 +124,18 @@ try-at-spec =
     μ-loop
     sub-last
     sub-last-2
-    shared-slice-copy-out-low
-    mul-low
-    shared-slice-copy-out-low-2
-    sub-low
-    mul-high
-    shared-slice-copy-out-high
-    shared-slice-copy-out-high-2
-    sub-high
+    difference-requires
+    difference-requires-2
     loop-holds
     add-i
-    mul-larger
-    shared-slice-copy-out-larger
-    add-larger
-    mul-larger-2
-    shared-slice-copy-out-larger-2
-    sub-larger
+    add-difference
+    difference-requires-3
     larger-requires
-    add-smaller
-    mul-smaller
-    shared-slice-copy-out-smaller
-    mul-smaller-2
-    shared-slice-copy-out-smaller-2
-    sub-smaller
+    add-difference-2
+    difference-requires-4
     smaller-requires
-    add-count
     loop-less
     loop-again
+    add-t8
+    mul-t9
     returns)

@@ -1,0 +1,4 @@
+mod Fill
+mod Lean
+mod Ends
+mod Agree
