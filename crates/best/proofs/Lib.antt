@@ -2,3 +2,5 @@ mod Fill
 mod Lean
 mod Ends
 mod Agree
+pub mod Levels
+pub mod Bests
