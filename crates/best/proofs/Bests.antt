@@ -19,7 +19,7 @@ use Rattle.wiring.proofs.Rule.{fits-above}
 use Rattle.wiring.proofs.Halving.{evens-steady, to-half, from-half}
 use Rattle.jumper.specs.Span.{rangeOf}
 use Rattle.jumper.proofs.Spans.{range-exactly, none-fits, half-fits}
-use Rattle.best.specs.Halving.{emptyAt, readAt, Taken, fromHalf, halving, levels, readBetween, countUnder, countOf}
+use Rattle.best.specs.Halving.{emptyAt, readAt, Taken, fromHalf, Halving, onePair, levelOver, halving, levels, readBetween, countUnder, countOf}
 use Rattle.best.proofs.Levels.{one-pair, more-pairs, one-level, more-levels, by-halving, Past, cases}
 use Rattle.best.proofs.Agree.{Agree, evens-agree, half-agrees}
 
@@ -105,3 +105,82 @@ best-is-best =
     by-halving (λ m x y. Steady m x → Steady m y → BestOf m x y (halving m x y .best))
     (λ x y sx sy. rw (one-pair x y) (one-best x y))
     (λ m x y l ih sx sy. rw (more-pairs m x y l) (level-best m x y l sx sy (halving (half m) (evens x) (evens y) .best) (ih (evens-steady sx) (evens-steady sy)) (halving (half m) (evens x) (evens y) .count)))
+
+-- what is worked out looks at the m pairs alone
+pub halving-agrees : (m : ℕ) (x y : ℕ → ℤ) → 1 ≤ m → Steady m x → Steady m y → (x' y' : ℕ → ℤ) → Agree m x x' → Agree m y y' → halving m x y ≡ halving m x' y'
+halving-agrees =
+    by-halving (λ m x y. Steady m x → Steady m y → (x' y' : ℕ → ℤ) → Agree m x x' → Agree m y y' → halving m x y ≡ halving m x' y')
+    (λ x y sx sy x' y' ax ay. one-pair x y ∙ sym (one-pair x' y'))
+    (λ m x y l ih sx sy x' y' ax ay.
+        let e = halving (half m) (evens x) (evens y) in
+        let b = best-is-best (half m) (evens x) (evens y) (omega arith) (evens-steady sx) (evens-steady sy) in
+        let q = ih (evens-steady sx) (evens-steady sy) (evens x') (evens y') (evens-agree ax) (evens-agree ay) in
+        more-pairs m x y l ∙ rw (half-agrees m x y x' y' ax ay (e .best) (e .count) l (omega (arith, b .within)), q) (sym (more-pairs m x' y' l)))
+
+-- two differences a pair at most are read before 2h is tried
+past-read : (m : ℕ) (x y : ℕ → ℤ) (h c c' : ℕ) → Past m x y h c c' → c' ≤ c + 2 * m
+past-read m x y h c c' p = go (decLe h 0)
+  where
+    go : Dec (h ≤ 0) → c' ≤ c + 2 * m
+    go (yes z) = omega (arith, p .none (omega arith))
+    go (no z) = omega (arith, p .odd (omega arith) .1)
+
+level-cheap : (m : ℕ) (x y : ℕ → ℤ) (h c : ℕ) → 1 < m → c + 12 ≤ 12 * half m → fromHalf m x y h c .count + 12 ≤ 12 * m
+level-cheap m x y h c l e =
+    cases m x y h (λ (t : Taken). t .count + 12 ≤ 12 * m) c
+    (λ s o. omega arith)
+    (λ c' p o. omega (arith, past-read m x y h c c' p))
+    (λ c' p o. omega (arith, past-read m x y h c c' p))
+
+-- the count is at most 12 for each pair but one
+pub count-cheap : (m : ℕ) (x y : ℕ → ℤ) → 1 ≤ m → halving m x y .count + 12 ≤ 12 * m
+count-cheap =
+    by-halving (λ m x y. halving m x y .count + 12 ≤ 12 * m)
+    (λ x y. rw (one-pair x y) (omega arith))
+    (λ m x y l ih. rw (more-pairs m x y l) (level-cheap m x y (halving (half m) (evens x) (evens y) .best) (halving (half m) (evens x) (evens y) .count) l ih))
+
+-- which trials a level made is told by its best and its even half's
+level-counted : (m : ℕ) (x y : ℕ → ℤ) (h c : ℕ) → c + readBetween m (fromHalf m x y h c .best) h ≡ fromHalf m x y h c .count
+level-counted m x y h c = cases m x y h (λ (t : Taken). c + readBetween m (t .best) h ≡ t .count) c odd (λ c' p o. past c' p (2 * h) (omega arith)) (λ c' p o. past c' p (2 * h + 1) (omega arith))
+  where
+    odd : 0 < h → emptyAt m x y (2 * h - 1) ≡ false → c + readBetween m (2 * h - 1) h ≡ c + readAt m (2 * h - 1)
+    odd s o = rw (lt-ltb 0 h s, lt-ltb (2 * h - 1) (2 * h) (omega arith)) (omega arith)
+
+    past : (c' : ℕ) → Past m x y h c c' → (b : ℕ) → 2 * h ≤ b → c + readBetween m b h ≡ c' + readAt m (2 * h)
+    past c' p b w = go (decLe h 0)
+      where
+        go : Dec (h ≤ 0) → c + readBetween m b h ≡ c' + readAt m (2 * h)
+        go (yes z) = rw (le-ltb 0 h z, le-ltb b (2 * h) w) (omega (arith, p .none (omega arith)))
+        go (no z) = rw (lt-ltb 0 h (omega arith), le-ltb b (2 * h) w) (omega (arith, p .odd (omega arith) .1))
+
+-- a ladder begins with its own rung, and tells the count
+record Counted (m : ℕ) (e : Halving) : Type 0 where
+  rest : List ℕ
+  ladder : e .ladder ≡ m ∷ e .best ∷ rest
+  count : countUnder m (e .best) rest ≡ e .count
+
+one-counted : Counted 1 onePair
+unfolding countUnder
+one-counted = record { rest = []; ladder = refl; count = refl }
+
+more-counted : (m : ℕ) (x y : ℕ → ℤ) (e : Halving) → Counted (half m) e → Counted m (levelOver m x y e)
+unfolding countUnder
+more-counted m x y e k = record { rest = e .ladder; ladder = refl; count = rw (k .ladder, k .count) (level-counted m x y (e .best) (e .count)) }
+
+counted : (m : ℕ) (x y : ℕ → ℤ) → 1 ≤ m → Counted m (halving m x y)
+counted =
+    by-halving (λ m x y. Counted m (halving m x y))
+    (λ x y. rw (one-pair x y) one-counted)
+    (λ m x y l ih. rw (more-pairs m x y l) (more-counted m x y (halving (half m) (evens x) (evens y)) ih))
+
+-- "The count is therefore fixed by the ladder."
+pub count-fixed : (m : ℕ) (x y : ℕ → ℤ) → 1 ≤ m → halving m x y .count ≡ countOf (halving m x y .ladder)
+unfolding countOf
+count-fixed m x y h = let k = counted m x y h in rw (k .ladder) (sym (k .count))
+
+-- two numbers for each level
+pub ladder-length : (m : ℕ) (x y : ℕ → ℤ) → 1 ≤ m → length (halving m x y .ladder) ≡ 2 * levels m
+ladder-length =
+    by-halving (λ m x y. length (halving m x y .ladder) ≡ 2 * levels m)
+    (λ x y. rw (one-pair x y, one-level))
+    (λ m x y l ih. rw (more-pairs m x y l, more-levels m l) (omega (arith, ih)))

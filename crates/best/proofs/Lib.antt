@@ -4,3 +4,5 @@ mod Ends
 mod Agree
 pub mod Levels
 pub mod Bests
+mod Choices
+mod Ladders

@@ -43,12 +43,12 @@ pub record Triable (x y : List ℤ) (s : ℕ) : Type 0 where
 abbrev pub trialOf : (x y : List ℤ) (s : ℕ) → Trial
 trialOf x y s = record { range = rangeOf (length x) (pad x) (pad y) s; count = readAt (length x) s }
 
--- more than one pair, the best h of the even half, and so many differences read for it
-pub record Choosable (x y : List ℤ) (h c : ℕ) : Type 0 where
+-- more than one pair, the best h of the even half, and c differences read before, which are not too many
+pub record Choosable (most : ℕ) (x y : List ℤ) (h c : ℕ) : Type 0 where
   pub pairs : Pairs x y
   pub more : 1 < length x
   pub within : 4 * h ≤ length x + 1
-  pub cheap : c ≤ 100000
+  pub cheap : c ≤ most
 
 -- what a level hands up: its best and count, and the range at its best, unless that was not read: then an empty range stands for it
 pub record IsLevel (m : ℕ) (x y : ℕ → ℤ) (t : Taken) (r : Level) : Type 0 where

@@ -29,7 +29,7 @@ pub(crate) fn lowest() -> Level
 
 // 2h, else 2h + 1 without a trial.
 fn try_even(x: &[i32], y: &[i32], h: usize, read: usize) -> Level
-    requires { ⌜ Choosable (now x) (now y) h read ⌝ }
+    requires { ⌜ Choosable 200000 (now x) (now y) h read ⌝ }
     ensures { λ r. ⌜ EvenTried (now (x .entry)) (now (y .entry)) h read r ⌝ }
 {
     let s = 2 * h;
@@ -52,7 +52,7 @@ fn try_even(x: &[i32], y: &[i32], h: usize, read: usize) -> Level
 
 // 2h - 1 if h is not 0, then 2h.
 pub(crate) fn choose(x: &[i32], y: &[i32], h: usize, read: usize) -> Level
-    requires { ⌜ Choosable (now x) (now y) h read ⌝ }
+    requires { ⌜ Choosable 100000 (now x) (now y) h read ⌝ }
     ensures { λ r. ⌜ Chosen (now (x .entry)) (now (y .entry)) h read r ⌝ }
 {
     if h == 0 {
@@ -83,7 +83,7 @@ pub(crate) fn set_rung(ladder: &mut [usize], size: usize, best: usize)
 
 // How many levels there are from n pairs down to one.
 pub(crate) fn count_levels(n: usize) -> usize
-    requires { ⌜ n ≤ maxPairs ⌝ }
+    requires { ⌜ (1 ≤ n) × (n ≤ maxPairs) ⌝ }
     ensures { λ r. ⌜ r ≡ levels n ⌝ }
 {
     let mut m = n;

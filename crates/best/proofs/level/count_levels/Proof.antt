@@ -1,14 +1,20 @@
+-- The loop's invariant: the levels of n are those counted and those of the m pairs that are left.
+use mathlib.Core.Path.{_≡_, refl, sym, ap, _∙_}
+use Prim.Native.Nat.{ℕ, _+_, _-_, _*_, _≤_}
+use native.Mathlib.Omega.{arith}
 use borrow.Author.Needs.{needs}
+use Rattle.best.specs.Halving.{levels}
+use Rattle.best.proofs.Levels.{one-level, more-levels}
 use Rattle.best.proofs.level.count_levels.Statement.{statement}
 use Rattle.best.proofs.level.count_levels.Tie as tie
 use Rattle.best.proofs.level.count_levels.Reads as reads
 use Rattle.best.proofs.level.count_levels.Lts as lts
 
 abbrev Inv-loop : tie.InvT-loop
-Inv-loop n m₀ count₀ m count = Unit {0}
+Inv-loop n m₀ count₀ m count = (1 ≤ m) × ((m + count ≤ n + 1) × (levels n + 1 ≡ levels m + count))
 
 abbrev μ-loop : tie.MeasureT-loop
-μ-loop n m₀ count₀ m count = ?
+μ-loop n m₀ count₀ m count = m
 
 -- src/level.rt:91:5
 loop-holds : tie.Need-loop-holds Inv-loop μ-loop
@@ -28,11 +34,13 @@ loop-less c = search needs
 
 -- src/level.rt:91:5
 loop-again : tie.Need-loop-again Inv-loop μ-loop
-loop-again c = search needs
+loop-again c = let e = more-levels (c .before .loop .m) (c .loop-test .taken) in (omega arith, (omega arith, omega arith))
 
 -- src/level.rt:85:1
 returns : tie.Need-returns Inv-loop μ-loop
-returns c = search needs
+returns c =
+    let e : c .before .loop .m ≡ 1 = omega arith in
+    omega (arith, ap levels e, one-level)
 
 pub count-levels-spec : {M : Type 1} → statement M
 count-levels-spec =

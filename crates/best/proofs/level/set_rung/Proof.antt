@@ -1,4 +1,5 @@
 use borrow.Author.Needs.{needs}
+use Rattle.best.proofs.Ladders.{rung-set}
 use Rattle.best.proofs.level.set_rung.Statement.{statement}
 use Rattle.best.proofs.level.set_rung.Tie as tie
 use Rattle.best.proofs.level.set_rung.Reads as reads
@@ -18,7 +19,7 @@ same-length c = search needs
 
 -- src/level.rt:76:1
 returns : tie.Need-returns
-returns c = search needs
+returns c = rung-set (c .args .ladder .now) (c .args .size) (c .args .best) (c .pre)
 
 pub set-rung-spec : {M : Type 1} → statement M
 set-rung-spec = tie.close (tie.spec slice-write-ladder slice-write-ladder-2 same-length returns)

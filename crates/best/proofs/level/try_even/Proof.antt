@@ -1,4 +1,10 @@
+use Prim.Native.Nat.{_*_}
+use native.Mathlib.Omega.{arith}
 use borrow.Author.Needs.{needs}
+use mir.Facts.{toZ-ofZ}
+use mir.Syntax.{w32}
+use mir.Val.{SFits}
+use Rattle.best.proofs.Choices.{empty-even, open-even, trial-few}
 use Rattle.best.proofs.level.try_even.Statement.{statement}
 use Rattle.best.proofs.level.try_even.Tie as tie
 use Rattle.best.proofs.level.try_even.Reads as reads
@@ -15,7 +21,9 @@ try-at-requires c κs = search needs
 
 -- src/level.rt:38:17
 add-count : tie.Need-add-count
-add-count c = search needs
+add-count c =
+    let k = c .before .before .before in
+    omega (arith, trial-few (k .args .x .now) (k .args .y .now) (2 * k .args .h) (c .before .before .try-at .result) (c .before .before .try-at .ensures), k .pre .cheap, k .pre .pairs .rows .few)
 
 -- src/level.rt:41:19
 add-t10 : tie.Need-add-t10
@@ -23,11 +31,23 @@ add-t10 c = search needs
 
 -- src/level.rt:40:9
 returns : tie.Need-returns
-returns c = search needs
+returns c =
+    let k = c .before .before .before .before .before in
+    let r = k .try-at .result in
+    let a = k .before .args in
+    let l : SFits w32 (r .range .low) = search needs in
+    let h : SFits w32 (r .range .high) = search needs in
+    empty-even (a .x .now) (a .y .now) (a .h) (a .read) r (k .try-at .ensures) (simp (toZ-ofZ l, toZ-ofZ h) at (c .if1 .taken))
 
 -- src/level.rt:31:1
 returns-2 : tie.Need-returns-2
-returns-2 c = search needs
+returns-2 c =
+    let k = c .before .before .before .before .before in
+    let r = k .try-at .result in
+    let a = k .before .args in
+    let l : SFits w32 (r .range .low) = search needs in
+    let h : SFits w32 (r .range .high) = search needs in
+    open-even (a .x .now) (a .y .now) (a .h) (a .read) r (k .try-at .ensures) (simp (toZ-ofZ l, toZ-ofZ h) at (c .if1 .left))
 
 pub try-even-spec : {M : Type 1} → statement M
 try-even-spec = tie.close (tie.spec mul-s try-at-requires add-count add-t10 returns returns-2)
