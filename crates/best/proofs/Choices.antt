@@ -16,29 +16,29 @@ use Rattle.best.specs.declared.trial.Trial.{Trial}
 use Rattle.best.specs.declared.level.Level.{Level}
 use Rattle.best.proofs.Levels.{from-odd, from-past, from-open, from-empty}
 
-module _ (x y : List ℤ) (h c : ℕ) (r : Trial) where
-  pub empty-even : r ≡ trialOf x y (2 * h) → ltZ (r .range .high) (r .range .low) ≡ true → EvenTried x y h c (record { best = 2 * h + 1; range = r .range; count = c + r .count })
+module _ (m : ℕ) (x y : List ℤ) (h c : ℕ) (r : Trial) where
+  pub empty-even : r ≡ trialOf m x y (2 * h) → ltZ (r .range .high) (r .range .low) ≡ true → EvenTried m x y h c (record { best = 2 * h + 1; range = r .range; count = c + r .count })
   empty-even e t =
       let q = rw e at t in
-      rw (from-empty (length x) (pad x) (pad y) h c q, e)
-      (record { best = refl; count = refl; kept = λ k. absurd (omega (arithℤ, true-lt (rangeOf (length x) (pad x) (pad y) (2 * h) .high) (rangeOf (length x) (pad x) (pad y) (2 * h) .low) q, k)) })
+      rw (from-empty m (pad x) (pad y) h c q, e)
+      (record { best = refl; count = refl; kept = λ k. absurd (omega (arithℤ, true-lt (rangeOf m (pad x) (pad y) (2 * h) .high) (rangeOf m (pad x) (pad y) (2 * h) .low) q, k)) })
 
-  pub open-even : r ≡ trialOf x y (2 * h) → ltZ (r .range .high) (r .range .low) ≡ false → EvenTried x y h c (record { best = 2 * h; range = r .range; count = c + r .count })
-  open-even e t = rw (from-open (length x) (pad x) (pad y) h c (rw e at t), e) (record { best = refl; count = refl; kept = λ k. refl })
+  pub open-even : r ≡ trialOf m x y (2 * h) → ltZ (r .range .high) (r .range .low) ≡ false → EvenTried m x y h c (record { best = 2 * h; range = r .range; count = c + r .count })
+  open-even e t = rw (from-open m (pad x) (pad y) h c (rw e at t), e) (record { best = refl; count = refl; kept = λ k. refl })
 
-  pub open-odd : 0 < h → r ≡ trialOf x y (2 * h - 1) → ltZ (r .range .high) (r .range .low) ≡ false → Chosen x y h c (record { best = 2 * h - 1; range = r .range; count = c + r .count })
-  open-odd s e t = rw (from-odd (length x) (pad x) (pad y) h c s (rw e at t), e) (record { best = refl; count = refl; kept = λ k. refl })
+  pub open-odd : 0 < h → r ≡ trialOf m x y (2 * h - 1) → ltZ (r .range .high) (r .range .low) ≡ false → Chosen m x y h c (record { best = 2 * h - 1; range = r .range; count = c + r .count })
+  open-odd s e t = rw (from-odd m (pad x) (pad y) h c s (rw e at t), e) (record { best = refl; count = refl; kept = λ k. refl })
 
-  pub past-odd : (l : Level) → 0 < h → r ≡ trialOf x y (2 * h - 1) → ltZ (r .range .high) (r .range .low) ≡ true → EvenTried x y h (c + r .count) l → Chosen x y h c l
-  past-odd l s e t k = rw (from-past (length x) (pad x) (pad y) h c s (rw e at t)) (rw e at k)
+  pub past-odd : (l : Level) → 0 < h → r ≡ trialOf m x y (2 * h - 1) → ltZ (r .range .high) (r .range .low) ≡ true → EvenTried m x y h (c + r .count) l → Chosen m x y h c l
+  past-odd l s e t k = rw (from-past m (pad x) (pad y) h c s (rw e at t)) (rw e at k)
 
 -- the range of a level, kept or read again
-pub kept-range : (x y : List ℤ) (l : Level) → Keeps x y l → ltZ (l .range .high) (l .range .low) ≡ false → l .range ≡ rangeOf (length x) (pad x) (pad y) (l .best)
-kept-range x y l k e = k .kept (false-lt (l .range .high) (l .range .low) e)
+pub kept-range : (m : ℕ) (x y : List ℤ) (l : Level) → Keeps m x y l → ltZ (l .range .high) (l .range .low) ≡ false → l .range ≡ rangeOf m (pad x) (pad y) (l .best)
+kept-range m x y l k e = k .kept (false-lt (l .range .high) (l .range .low) e)
 
-pub read-range : (x y : List ℤ) (s : ℕ) (r : Trial) → r ≡ trialOf x y s → r .range ≡ rangeOf (length x) (pad x) (pad y) s
-read-range x y s r e = ap (λ (t : Trial). t .range) e
+pub read-range : (m : ℕ) (x y : List ℤ) (s : ℕ) (r : Trial) → r ≡ trialOf m x y s → r .range ≡ rangeOf m (pad x) (pad y) s
+read-range m x y s r e = ap (λ (t : Trial). t .range) e
 
 -- a trial reads few differences
-pub trial-few : (x y : List ℤ) (s : ℕ) (r : Trial) → r ≡ trialOf x y s → r .count ≤ 2 * length x
-trial-few x y s r e = rw e (omega arith)
+pub trial-few : (m : ℕ) (x y : List ℤ) (s : ℕ) (r : Trial) → r ≡ trialOf m x y s → r .count ≤ 2 * m
+trial-few m x y s r e = rw e (omega arith)

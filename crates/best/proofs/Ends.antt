@@ -2,17 +2,16 @@
 use mathlib.Core.Path.{_≡_, refl, sym, ap, _∙_}
 use mathlib.Core.Bool.{Bool, true, false, cond}
 use mathlib.Core.List.{List}
-use Prim.Native.Nat.{ℕ, _+_, _-_, _*_, _<_}
+use Prim.Native.Nat.{ℕ, _+_, _-_, _*_, _≤_, _<_}
 use native.Mathlib.Nat.{zero-add}
 use native.Mathlib.Omega.{arith}
-use lib.ListN.{length}
 use lib.IntN.{ℤ, _-ℤ_}
 use lib.Signed.{ltZ}
 use Rattle.whole.specs.Pick.{firstBy, largest, smallest, largerOf, smallerOf}
 use Rattle.whole.proofs.Extremes.{first-more}
 use Rattle.wiring.specs.Wiring.{pad}
 use Rattle.wiring.specs.Fit.{lowEnd, highEnd}
-use Rattle.best.specs.Work.{trialOf}
+use Rattle.best.specs.Work.{Front, Near, trialOf}
 use Rattle.best.specs.declared.trial.Trial.{Trial}
 
 at-either : (f : ℕ → ℤ) (t : Bool) (i j : ℕ) → f (cond t i j) ≡ cond t (f i) (f j)
@@ -44,10 +43,15 @@ unfolding firstBy
 high-first x y s = rw zero-add
 
 -- after the last round
-pub trial-read : (x y : List ℤ) (s i : ℕ) (l h : ℤ) → s < length x → i ≡ length x - s - 1 → l ≡ largest (lowEnd (pad x) (pad y) s) i → h ≡ smallest (highEnd (pad x) (pad y) s) i
-    → _≡_ {A = Trial} (record { range = record { low = l; high = h }; count = 2 * (i + 1) }) (trialOf x y s)
-trial-read x y s i l h inside e p q =
-    let n : 2 * (i + 1) ≡ 2 * (length x - s) = omega arith in
+pub trial-read : (m : ℕ) (x y : List ℤ) (s i : ℕ) (l h : ℤ) → s < m → i ≡ m - s - 1 → l ≡ largest (lowEnd (pad x) (pad y) s) i → h ≡ smallest (highEnd (pad x) (pad y) s) i
+    → _≡_ {A = Trial} (record { range = record { low = l; high = h }; count = 2 * (i + 1) }) (trialOf m x y s)
+trial-read m x y s i l h inside e p q =
+    let n : 2 * (i + 1) ≡ 2 * (m - s) = omega arith in
     let p' = p ∙ ap (largest (lowEnd (pad x) (pad y) s)) e in
     let q' = q ∙ ap (smallest (highEnd (pad x) (pad y) s)) e in
     rw (p', q', n)
+
+-- the difference of two entries of the m pairs
+pub near-pair : (m : ℕ) (x y : List ℤ) (i j : ℕ) → Front m x y → i < m → j < m → Near x i y j
+near-pair m x y i j f h k =
+    record { inX = omega (arith, f .inX); inY = omega (arith, f .inY); nearX = f .rows .nearBottom i h; nearY = f .rows .nearTop j k }

@@ -30,24 +30,32 @@ pub record Halvable (m : ℕ) (x y : ℕ → ℤ) : Type 0 where
   pub nearBottom : (i : ℕ) → i < m → natAbs (x i) ≤ 1000000000
   pub nearTop : (i : ℕ) → i < m → natAbs (y i) ≤ 1000000000
 
--- two slices that hold such entries and nothing else
-pub record Pairs (x y : List ℤ) : Type 0 where
-  pub equal : length x ≡ length y
-  pub rows : Halvable (length x) (pad x) (pad y)
+-- m such pairs in front of two slices
+pub record Front (m : ℕ) (x y : List ℤ) : Type 0 where
+  pub rows : Halvable m (pad x) (pad y)
+  pub inX : m ≤ length x
+  pub inY : m ≤ length y
 
--- a trial at s among them
-pub record Triable (x y : List ℤ) (s : ℕ) : Type 0 where
-  pub pairs : Pairs x y
-  pub inside : s < length x
+-- entries i of x and j of y, whose difference fits an i32
+pub record Near (x : List ℤ) (i : ℕ) (y : List ℤ) (j : ℕ) : Type 0 where
+  pub inX : i < length x
+  pub inY : j < length y
+  pub nearX : natAbs (pad x i) ≤ 1000000000
+  pub nearY : natAbs (pad y j) ≤ 1000000000
 
-abbrev pub trialOf : (x y : List ℤ) (s : ℕ) → Trial
-trialOf x y s = record { range = rangeOf (length x) (pad x) (pad y) s; count = readAt (length x) s }
+-- a trial at s among m pairs
+pub record Triable (m : ℕ) (x y : List ℤ) (s : ℕ) : Type 0 where
+  pub front : Front m x y
+  pub inside : s < m
+
+abbrev pub trialOf : (m : ℕ) (x y : List ℤ) (s : ℕ) → Trial
+trialOf m x y s = record { range = rangeOf m (pad x) (pad y) s; count = readAt m s }
 
 -- more than one pair, the best h of the even half, and c differences read before, which are not too many
-pub record Choosable (most : ℕ) (x y : List ℤ) (h c : ℕ) : Type 0 where
-  pub pairs : Pairs x y
-  pub more : 1 < length x
-  pub within : 4 * h ≤ length x + 1
+pub record Choosable (most m : ℕ) (x y : List ℤ) (h c : ℕ) : Type 0 where
+  pub front : Front m x y
+  pub more : 1 < m
+  pub within : 4 * h ≤ m + 1
   pub cheap : c ≤ most
 
 -- what a level hands up: its best and count, and the range at its best, unless that was not read: then an empty range stands for it
@@ -56,21 +64,21 @@ pub record IsLevel (m : ℕ) (x y : ℕ → ℤ) (t : Taken) (r : Level) : Type 
   pub count : r .count ≡ t .count
   pub kept : r .range .low ≤ℤ r .range .high → r .range ≡ rangeOf m x y (t .best)
 
-abbrev pub EvenTried : (x y : List ℤ) (h c : ℕ) (r : Level) → Type 0
-EvenTried x y h c r = IsLevel (length x) (pad x) (pad y) (fromEven (length x) (pad x) (pad y) h c) r
+abbrev pub EvenTried : (m : ℕ) (x y : List ℤ) (h c : ℕ) (r : Level) → Type 0
+EvenTried m x y h c r = IsLevel m (pad x) (pad y) (fromEven m (pad x) (pad y) h c) r
 
-abbrev pub Chosen : (x y : List ℤ) (h c : ℕ) (r : Level) → Type 0
-Chosen x y h c r = IsLevel (length x) (pad x) (pad y) (fromHalf (length x) (pad x) (pad y) h c) r
+abbrev pub Chosen : (m : ℕ) (x y : List ℤ) (h c : ℕ) (r : Level) → Type 0
+Chosen m x y h c r = IsLevel m (pad x) (pad y) (fromHalf m (pad x) (pad y) h c) r
 
 -- the level of one pair
 abbrev pub lowestLevel : Level
 lowestLevel = record { best = 0; range = record { low = pos 1; high = pos 0 }; count = 0 }
 
 -- a level's range, kept or not yet read
-pub record Keeps (x y : List ℤ) (l : Level) : Type 0 where
-  pub pairs : Pairs x y
-  pub inside : l .best < length x
-  pub kept : l .range .low ≤ℤ l .range .high → l .range ≡ rangeOf (length x) (pad x) (pad y) (l .best)
+pub record Keeps (m : ℕ) (x y : List ℤ) (l : Level) : Type 0 where
+  pub front : Front m x y
+  pub inside : l .best < m
+  pub kept : l .range .low ≤ℤ l .range .high → l .range ≡ rangeOf m (pad x) (pad y) (l .best)
 
 -- room in which m pairs can be halved: in x and y for the pairs and behind them every second half, in hx and hy for the other halves
 pub record Room (m : ℕ) (x y hx hy : List ℤ) : Type 0 where

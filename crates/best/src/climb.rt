@@ -16,10 +16,10 @@ pub(crate) fn climb(x: &mut [i32], y: &mut [i32], hx: &mut [i32], hy: &mut [i32]
         set_rung(ladder, m, 0);
         return lowest();
     }
-    even_half(&x[..m], hx);
-    even_half(&y[..m], hy);
+    even_half(x, m, hx);
+    even_half(y, m, hy);
     let under = climb(hx, hy, &mut x[m..], &mut y[m..], (m + 1) / 2, &mut ladder[2..]);
-    let level = choose(&x[..m], &y[..m], under.best, under.count);
+    let level = choose(x, y, m, under.best, under.count);
     set_rung(ladder, m, level.best);
     level
 }

@@ -28,20 +28,17 @@ pub(crate) fn lowest() -> Level
 }
 
 // 2h, else 2h + 1 without a trial.
-fn try_even(x: &[i32], y: &[i32], h: usize, read: usize) -> Level
-    requires { ⌜ Choosable 200000 (now x) (now y) h read ⌝ }
-    ensures { λ r. ⌜ EvenTried (now (x .entry)) (now (y .entry)) h read r ⌝ }
+fn try_even(x: &[i32], y: &[i32], m: usize, h: usize, read: usize) -> Level
+    requires { ⌜ Choosable 200000 m (now x) (now y) h read ⌝ }
+    ensures { λ r. ⌜ EvenTried m (now (x .entry)) (now (y .entry)) h read r ⌝ }
 {
     let s = 2 * h;
-    let tried = try_at(x, y, s);
+    let tried = try_at(x, y, m, s);
     let range = tried.range;
     let count = read + tried.count;
     if range.high < range.low {
-        return Level {
-            best: s + 1,
-            range,
-            count,
-        };
+        let best = s + 1;
+        return Level { best, range, count };
     }
     Level {
         best: s,
@@ -51,19 +48,19 @@ fn try_even(x: &[i32], y: &[i32], h: usize, read: usize) -> Level
 }
 
 // 2h - 1 if h is not 0, then 2h.
-pub(crate) fn choose(x: &[i32], y: &[i32], h: usize, read: usize) -> Level
-    requires { ⌜ Choosable 100000 (now x) (now y) h read ⌝ }
-    ensures { λ r. ⌜ Chosen (now (x .entry)) (now (y .entry)) h read r ⌝ }
+pub(crate) fn choose(x: &[i32], y: &[i32], m: usize, h: usize, read: usize) -> Level
+    requires { ⌜ Choosable 100000 m (now x) (now y) h read ⌝ }
+    ensures { λ r. ⌜ Chosen m (now (x .entry)) (now (y .entry)) h read r ⌝ }
 {
     if h == 0 {
-        return try_even(x, y, h, read);
+        return try_even(x, y, m, h, read);
     }
     let s = 2 * h - 1;
-    let tried = try_at(x, y, s);
+    let tried = try_at(x, y, m, s);
     let range = tried.range;
     let count = read + tried.count;
     if range.high < range.low {
-        return try_even(x, y, h, count);
+        return try_even(x, y, m, h, count);
     }
     Level {
         best: s,

@@ -102,7 +102,7 @@ fn halve_in(a: &[i32], b: &[i32], x: &mut [i32], y: &mut [i32], hx: &mut [i32], 
     lower(a, x);
     lower(b, y);
     let level = climb(x, y, hx, hy, n, ladder);
-    let range = kept_or_read(&x[..n], &y[..n], level);
+    let range = kept_or_read(x, y, n, level);
     Planned {
         separation: level.best,
         range,
@@ -111,14 +111,14 @@ fn halve_in(a: &[i32], b: &[i32], x: &mut [i32], y: &mut [i32], hx: &mut [i32], 
 }
 
 // The range at a level's best: kept from its trial, or else read.
-fn kept_or_read(x: &[i32], y: &[i32], level: Level) -> OffsetRange
-    requires { ⌜ Keeps (now x) (now y) level ⌝ }
-    ensures { λ r. ⌜ r ≡ rangeOf (length (now (x .entry))) (pad (now (x .entry))) (pad (now (y .entry))) (level .best) ⌝ }
+fn kept_or_read(x: &[i32], y: &[i32], m: usize, level: Level) -> OffsetRange
+    requires { ⌜ Keeps m (now x) (now y) level ⌝ }
+    ensures { λ r. ⌜ r ≡ rangeOf m (pad (now (x .entry))) (pad (now (y .entry))) (level .best) ⌝ }
 {
     let range = level.range;
     let s = level.best;
     if range.high < range.low {
-        let tried = try_at(x, y, s);
+        let tried = try_at(x, y, m, s);
         let read = tried.range;
         return read;
     }

@@ -20,12 +20,12 @@ pub(crate) fn lower(a: &[i32], out: &mut [i32])
     }
 }
 
-// Entries 0, 2, 4 .. of x, in front of `out`.
-pub(crate) fn even_half(x: &[i32], out: &mut [i32])
-    requires { ⌜ (length (now x) ≤ maxPairs) × (half (length (now x)) ≤ length (now out)) ⌝ }
-    ensures { λ _. ⌜ Filled (evens (pad (now (x .entry)))) (half (length (now (x .entry)))) (now (out .exit)) ⌝ }
+// Entries 0, 2, 4 .. of the first m of x, in front of `out`.
+pub(crate) fn even_half(x: &[i32], m: usize, out: &mut [i32])
+    requires { ⌜ (m ≤ maxPairs) × (m ≤ length (now x)) × (half m ≤ length (now out)) ⌝ }
+    ensures { λ _. ⌜ Filled (evens (pad (now (x .entry)))) (half m) (now (out .exit)) ⌝ }
 {
-    let k = (x.len() + 1) / 2;
+    let k = (m + 1) / 2;
     let mut i: usize = 0;
     while i < k {
         out[i] = x[2 * i];

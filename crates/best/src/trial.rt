@@ -1,10 +1,8 @@
 // A trial: the range at one separation, and how many differences were read for it.
 ghost use mathlib.Core.Path.{_≡_};
-ghost use Prim.Native.Nat.{_<_};
-ghost use lib.ListN.{length};
 ghost use lib.IntN.{_-ℤ_};
 ghost use Rattle.wiring.specs.Wiring.{pad};
-ghost use Rattle.best.specs.Work.{Pairs, Triable, trialOf};
+ghost use Rattle.best.specs.Work.{Near, Triable, trialOf};
 use jumper::range::OffsetRange;
 
 pub(crate) struct Trial {
@@ -14,18 +12,19 @@ pub(crate) struct Trial {
 
 // x_i - y_j.
 fn difference(x: &[i32], i: usize, y: &[i32], j: usize) -> i32
-    requires { ⌜ Pairs (now x) (now y) × (i < length (now x)) × (j < length (now x)) ⌝ }
+    requires { ⌜ Near (now x) i (now y) j ⌝ }
     ensures { λ r. ⌜ r ≡ pad (now (x .entry)) i -ℤ pad (now (y .entry)) j ⌝ }
 {
     x[i] - y[j]
 }
 
-// Two differences are read for pair 0 and two more in each round, so the count is told by the rounds that were made.
-pub(crate) fn try_at(x: &[i32], y: &[i32], s: usize) -> Trial
-    requires { ⌜ Triable (now x) (now y) s ⌝ }
-    ensures { λ r. ⌜ r ≡ trialOf (now (x .entry)) (now (y .entry)) s ⌝ }
+// At separation s among the m pairs in front of x and y. Two differences are read for pair 0 and two more in each round, so the rounds that were
+// made tell the count: a counter beside i would keep the loop from the wider registers.
+pub(crate) fn try_at(x: &[i32], y: &[i32], m: usize, s: usize) -> Trial
+    requires { ⌜ Triable m (now x) (now y) s ⌝ }
+    ensures { λ r. ⌜ r ≡ trialOf m (now (x .entry)) (now (y .entry)) s ⌝ }
 {
-    let last = x.len() - s - 1;
+    let last = m - s - 1;
     let mut low = difference(x, 0, y, s);
     let mut high = difference(x, s, y, 0);
     let mut i: usize = 0;
@@ -34,8 +33,9 @@ pub(crate) fn try_at(x: &[i32], y: &[i32], s: usize) -> Trial
         low = whole::larger(low, difference(x, i, y, i + s));
         high = whole::smaller(high, difference(x, i + s, y, i));
     }
+    let count = 2 * (i + 1);
     Trial {
         range: OffsetRange { low, high },
-        count: 2 * (i + 1),
+        count,
     }
 }

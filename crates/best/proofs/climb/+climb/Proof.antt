@@ -1,4 +1,3 @@
-use borrow.Author.Needs.{needs}
 use Prim.Native.Nat.{ℕ, _<_}
 use borrow.Fn.Kinds.{In}
 use borrow.Fn.PlainCycle.{Measures, is, falls, and}
@@ -81,36 +80,6 @@ climb-returns : (t : ℕ) → climb-lts.Need-returns (
 ) (climb-at t) climb.Post
 climb-returns t c = ?
 
--- src/climb.rt:19:15
-climb-slice-reshare-prefix-even-half : (t : ℕ) → climb-lts.Need-slice-reshare-prefix-even-half (
-  set-rung-reads.Asked,
-  set-rung-reads.Learnt,
-  lowest-reads.Asked,
-  lowest-reads.Learnt,
-  even-half-reads.Asked,
-  even-half-reads.Learnt,
-  climb-below t,
-  climb.Post,
-  choose-reads.Asked,
-  choose-reads.Learnt,
-) (climb-at t) climb.Post
-climb-slice-reshare-prefix-even-half t c = ?
-
--- src/climb.rt:19:15
-climb-slice-aggregate-even-half : (t : ℕ) → climb-lts.Need-slice-aggregate-even-half (
-  set-rung-reads.Asked,
-  set-rung-reads.Learnt,
-  lowest-reads.Asked,
-  lowest-reads.Learnt,
-  even-half-reads.Asked,
-  even-half-reads.Learnt,
-  climb-below t,
-  climb.Post,
-  choose-reads.Asked,
-  choose-reads.Learnt,
-) (climb-at t) climb.Post
-climb-slice-aggregate-even-half t c = ?
-
 -- src/climb.rt:19:5
 climb-even-half-requires : (t : ℕ) → climb-lts.Need-even-half-requires (
   set-rung-reads.Asked,
@@ -125,36 +94,6 @@ climb-even-half-requires : (t : ℕ) → climb-lts.Need-even-half-requires (
   choose-reads.Learnt,
 ) (climb-at t) climb.Post
 climb-even-half-requires t c κs = ?
-
--- src/climb.rt:20:15
-climb-slice-reshare-prefix-even-half-2 : (t : ℕ) → climb-lts.Need-slice-reshare-prefix-even-half-2 (
-  set-rung-reads.Asked,
-  set-rung-reads.Learnt,
-  lowest-reads.Asked,
-  lowest-reads.Learnt,
-  even-half-reads.Asked,
-  even-half-reads.Learnt,
-  climb-below t,
-  climb.Post,
-  choose-reads.Asked,
-  choose-reads.Learnt,
-) (climb-at t) climb.Post
-climb-slice-reshare-prefix-even-half-2 t c = ?
-
--- src/climb.rt:20:15
-climb-slice-aggregate-even-half-2 : (t : ℕ) → climb-lts.Need-slice-aggregate-even-half-2 (
-  set-rung-reads.Asked,
-  set-rung-reads.Learnt,
-  lowest-reads.Asked,
-  lowest-reads.Learnt,
-  even-half-reads.Asked,
-  even-half-reads.Learnt,
-  climb-below t,
-  climb.Post,
-  choose-reads.Asked,
-  choose-reads.Learnt,
-) (climb-at t) climb.Post
-climb-slice-aggregate-even-half-2 t c = ?
 
 -- src/climb.rt:20:5
 climb-even-half-requires-2 : (t : ℕ) → climb-lts.Need-even-half-requires-2 (
@@ -366,66 +305,6 @@ climb-climb-requires : (t : ℕ) → climb-lts.Need-climb-requires (
 ) (climb-at t) climb.Post
 climb-climb-requires t c κs = ?
 
--- src/climb.rt:22:24
-climb-slice-reshare-prefix-choose : (t : ℕ) → climb-lts.Need-slice-reshare-prefix-choose (
-  set-rung-reads.Asked,
-  set-rung-reads.Learnt,
-  lowest-reads.Asked,
-  lowest-reads.Learnt,
-  even-half-reads.Asked,
-  even-half-reads.Learnt,
-  climb-below t,
-  climb.Post,
-  choose-reads.Asked,
-  choose-reads.Learnt,
-) (climb-at t) climb.Post
-climb-slice-reshare-prefix-choose t c = ?
-
--- src/climb.rt:22:24
-climb-slice-aggregate-choose : (t : ℕ) → climb-lts.Need-slice-aggregate-choose (
-  set-rung-reads.Asked,
-  set-rung-reads.Learnt,
-  lowest-reads.Asked,
-  lowest-reads.Learnt,
-  even-half-reads.Asked,
-  even-half-reads.Learnt,
-  climb-below t,
-  climb.Post,
-  choose-reads.Asked,
-  choose-reads.Learnt,
-) (climb-at t) climb.Post
-climb-slice-aggregate-choose t c = ?
-
--- src/climb.rt:22:33
-climb-slice-reshare-prefix-choose-2 : (t : ℕ) → climb-lts.Need-slice-reshare-prefix-choose-2 (
-  set-rung-reads.Asked,
-  set-rung-reads.Learnt,
-  lowest-reads.Asked,
-  lowest-reads.Learnt,
-  even-half-reads.Asked,
-  even-half-reads.Learnt,
-  climb-below t,
-  climb.Post,
-  choose-reads.Asked,
-  choose-reads.Learnt,
-) (climb-at t) climb.Post
-climb-slice-reshare-prefix-choose-2 t c = ?
-
--- src/climb.rt:22:33
-climb-slice-aggregate-choose-2 : (t : ℕ) → climb-lts.Need-slice-aggregate-choose-2 (
-  set-rung-reads.Asked,
-  set-rung-reads.Learnt,
-  lowest-reads.Asked,
-  lowest-reads.Learnt,
-  even-half-reads.Asked,
-  even-half-reads.Learnt,
-  climb-below t,
-  climb.Post,
-  choose-reads.Asked,
-  choose-reads.Learnt,
-) (climb-at t) climb.Post
-climb-slice-aggregate-choose-2 t c = ?
-
 -- src/climb.rt:22:9
 climb-choose-requires : (t : ℕ) → climb-lts.Need-choose-requires (
   set-rung-reads.Asked,
@@ -565,11 +444,7 @@ pub +climb-spec : {M : Type 1} → statement M
     (climb-lowest-requires t)
     (climb-same-length t)
     (climb-returns t)
-    (climb-slice-reshare-prefix-even-half t)
-    (climb-slice-aggregate-even-half t)
     (climb-even-half-requires t)
-    (climb-slice-reshare-prefix-even-half-2 t)
-    (climb-slice-aggregate-even-half-2 t)
     (climb-even-half-requires-2 t)
     (climb-mul-climb t)
     (climb-sub-climb t)
@@ -584,10 +459,6 @@ pub +climb-spec : {M : Type 1} → statement M
     (climb-part-climb-start-3 t)
     (climb-part-climb-end-3 t)
     (climb-climb-requires t)
-    (climb-slice-reshare-prefix-choose t)
-    (climb-slice-aggregate-choose t)
-    (climb-slice-reshare-prefix-choose-2 t)
-    (climb-slice-aggregate-choose-2 t)
     (climb-choose-requires t)
     (climb-set-rung-requires-2 t)
     (climb-same-length-2 t)

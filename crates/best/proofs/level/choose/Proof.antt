@@ -27,7 +27,7 @@ try-even-requires c κs = search needs
 returns : tie.Need-returns
 returns c =
     let a = c .before .before .args in
-    rw (from-none (length (a .x .now)) (pad (a .x .now)) (pad (a .y .now)) (a .h) (a .read) (c .before .if1 .taken)) (c .try-even .ensures)
+    rw (from-none (a .m) (pad (a .x .now)) (pad (a .y .now)) (a .h) (a .read) (c .before .if1 .taken)) (c .try-even .ensures)
 
 -- src/level.rt:61:13
 mul-s : tie.Need-mul-s
@@ -46,7 +46,7 @@ add-count : tie.Need-add-count
 add-count c =
     let k = c .before .before in
     let s = k .before .before in
-    omega (arith, trial-few (s .args .x .now) (s .args .y .now) (2 * s .args .h - 1) (k .try-at .result) (k .try-at .ensures), s .pre .cheap, s .pre .pairs .rows .few)
+    omega (arith, trial-few (s .args .m) (s .args .x .now) (s .args .y .now) (2 * s .args .h - 1) (k .try-at .result) (k .try-at .ensures), s .pre .cheap, s .pre .front .rows .few)
 
 -- src/level.rt:66:9
 try-even-requires-2 : tie.Need-try-even-requires-2
@@ -54,7 +54,7 @@ try-even-requires-2 c κs =
     let k = c .before .before .before .before .before in
     let s = k .before .before in
     let p = s .pre in
-    record { pairs = p .pairs; more = p .more; within = p .within; cheap = omega (arith, trial-few (s .args .x .now) (s .args .y .now) (2 * s .args .h - 1) (k .try-at .result) (k .try-at .ensures), p .cheap, p .pairs .rows .few) }
+    record { front = p .front; more = p .more; within = p .within; cheap = omega (arith, trial-few (s .args .m) (s .args .x .now) (s .args .y .now) (2 * s .args .h - 1) (k .try-at .result) (k .try-at .ensures), p .cheap, p .front .rows .few) }
 
 -- src/level.rt:66:9
 returns-2 : tie.Need-returns-2
@@ -65,7 +65,7 @@ returns-2 c =
     let a = k .before .before .args in
     let l : SFits w32 (r .range .low) = search needs in
     let h : SFits w32 (r .range .high) = search needs in
-    past-odd (a .x .now) (a .y .now) (a .h) (a .read) r _ (pos-of-ne-zero (k .before .if1 .left)) (k .try-at .ensures) (simp (toZ-ofZ l, toZ-ofZ h) at (j .if2 .taken)) (c .try-even2 .ensures)
+    past-odd (a .m) (a .x .now) (a .y .now) (a .h) (a .read) r _ (pos-of-ne-zero (k .before .if1 .left)) (k .try-at .ensures) (simp (toZ-ofZ l, toZ-ofZ h) at (j .if2 .taken)) (c .try-even2 .ensures)
 
 -- src/level.rt:54:1
 returns-3 : tie.Need-returns-3
@@ -75,7 +75,7 @@ returns-3 c =
     let a = k .before .before .args in
     let l : SFits w32 (r .range .low) = search needs in
     let h : SFits w32 (r .range .high) = search needs in
-    open-odd (a .x .now) (a .y .now) (a .h) (a .read) r (pos-of-ne-zero (k .before .if1 .left)) (k .try-at .ensures) (simp (toZ-ofZ l, toZ-ofZ h) at (c .if2 .left))
+    open-odd (a .m) (a .x .now) (a .y .now) (a .h) (a .read) r (pos-of-ne-zero (k .before .if1 .left)) (k .try-at .ensures) (simp (toZ-ofZ l, toZ-ofZ h) at (c .if2 .left))
 
 pub choose-spec : {M : Type 1} → statement M
 choose-spec =

@@ -23,11 +23,11 @@ try-at-requires c κs = search needs
 add-count : tie.Need-add-count
 add-count c =
     let k = c .before .before .before in
-    omega (arith, trial-few (k .args .x .now) (k .args .y .now) (2 * k .args .h) (c .before .before .try-at .result) (c .before .before .try-at .ensures), k .pre .cheap, k .pre .pairs .rows .few)
+    omega (arith, trial-few (k .args .m) (k .args .x .now) (k .args .y .now) (2 * k .args .h) (c .before .before .try-at .result) (c .before .before .try-at .ensures), k .pre .cheap, k .pre .front .rows .few)
 
 -- src/level.rt:41:19
-add-t10 : tie.Need-add-t10
-add-t10 c = search needs
+add-best : tie.Need-add-best
+add-best c = search needs
 
 -- src/level.rt:40:9
 returns : tie.Need-returns
@@ -37,7 +37,7 @@ returns c =
     let a = k .before .args in
     let l : SFits w32 (r .range .low) = search needs in
     let h : SFits w32 (r .range .high) = search needs in
-    empty-even (a .x .now) (a .y .now) (a .h) (a .read) r (k .try-at .ensures) (simp (toZ-ofZ l, toZ-ofZ h) at (c .if1 .taken))
+    empty-even (a .m) (a .x .now) (a .y .now) (a .h) (a .read) r (k .try-at .ensures) (simp (toZ-ofZ l, toZ-ofZ h) at (c .if1 .taken))
 
 -- src/level.rt:31:1
 returns-2 : tie.Need-returns-2
@@ -47,7 +47,7 @@ returns-2 c =
     let a = k .before .args in
     let l : SFits w32 (r .range .low) = search needs in
     let h : SFits w32 (r .range .high) = search needs in
-    open-even (a .x .now) (a .y .now) (a .h) (a .read) r (k .try-at .ensures) (simp (toZ-ofZ l, toZ-ofZ h) at (c .if1 .left))
+    open-even (a .m) (a .x .now) (a .y .now) (a .h) (a .read) r (k .try-at .ensures) (simp (toZ-ofZ l, toZ-ofZ h) at (c .if1 .left))
 
 pub try-even-spec : {M : Type 1} → statement M
-try-even-spec = tie.close (tie.spec mul-s try-at-requires add-count add-t10 returns returns-2)
+try-even-spec = tie.close (tie.spec mul-s try-at-requires add-count add-best returns returns-2)

@@ -21,23 +21,23 @@ enum-told c = search needs
 
 -- src/plan.rt:40:35
 count-levels-requires : tie.Need-count-levels-requires
-count-levels-requires c κs = search needs
+count-levels-requires c κs = ?
 
 -- src/plan.rt:40:31
 mul-if1 : tie.Need-mul-if1
-mul-if1 c = search needs
+mul-if1 c = ?
 
 -- src/plan.rt:41:17
 returns : tie.Need-returns
-returns c = search needs
+returns c = ?
 
 -- src/plan.rt:43:25
 halve-requires : tie.Need-halve-requires
-halve-requires c κs = search needs
+halve-requires c κs = ?
 
 -- src/plan.rt:34:1
 returns-2 : tie.Need-returns-2
-returns-2 c = search needs
+returns-2 c = ?
 
 -- src/plan.rt:34:1
 same-length : tie.Need-same-length
@@ -45,7 +45,7 @@ same-length c = search needs
 
 -- src/plan.rt:34:1
 returns-3 : tie.Need-returns-3
-returns-3 c = search needs
+returns-3 c = ?
 
 pub best-of-spec : {M : Type 1} → statement M
 best-of-spec =

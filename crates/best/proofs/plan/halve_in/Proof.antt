@@ -17,27 +17,11 @@ lower-requires-2 c κs = search needs
 
 -- src/plan.rt:104:9
 climb-requires : tie.Need-climb-requires
-climb-requires c κs = search needs
-
--- src/plan.rt:105:30
-slice-reshare-prefix-kept-or-read : tie.Need-slice-reshare-prefix-kept-or-read
-slice-reshare-prefix-kept-or-read c = search needs
-
--- src/plan.rt:105:30
-slice-aggregate-kept-or-read : tie.Need-slice-aggregate-kept-or-read
-slice-aggregate-kept-or-read c = search needs
-
--- src/plan.rt:105:39
-slice-reshare-prefix-kept-or-read-2 : tie.Need-slice-reshare-prefix-kept-or-read-2
-slice-reshare-prefix-kept-or-read-2 c = search needs
-
--- src/plan.rt:105:39
-slice-aggregate-kept-or-read-2 : tie.Need-slice-aggregate-kept-or-read-2
-slice-aggregate-kept-or-read-2 c = search needs
+climb-requires c κs = ?
 
 -- src/plan.rt:105:9
 kept-or-read-requires : tie.Need-kept-or-read-requires
-kept-or-read-requires c κs = search needs
+kept-or-read-requires c κs = ?
 
 -- src/plan.rt:97:1
 same-length : tie.Need-same-length
@@ -61,7 +45,7 @@ same-length-5 c = search needs
 
 -- src/plan.rt:97:1
 returns : tie.Need-returns
-returns c = search needs
+returns c = ?
 
 pub halve-in-spec : {M : Type 1} → statement M
 halve-in-spec =
@@ -70,10 +54,6 @@ halve-in-spec =
     lower-requires
     lower-requires-2
     climb-requires
-    slice-reshare-prefix-kept-or-read
-    slice-aggregate-kept-or-read
-    slice-reshare-prefix-kept-or-read-2
-    slice-aggregate-kept-or-read-2
     kept-or-read-requires
     same-length
     same-length-2

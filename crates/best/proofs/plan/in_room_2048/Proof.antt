@@ -23,7 +23,7 @@ slice-aggregate-halve-in-4 c = search needs
 
 -- src/plan.rt:93:5
 halve-in-requires : tie.Need-halve-in-requires
-halve-in-requires c κs = search needs
+halve-in-requires c κs = ?
 
 -- src/plan.rt:85:1
 same-length : tie.Need-same-length

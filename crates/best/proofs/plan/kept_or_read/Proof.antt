@@ -18,7 +18,7 @@ returns : tie.Need-returns
 returns c =
     let k = c .before in
     let a = k .before .before .before .before .before .args in
-    read-range (a .x .now) (a .y .now) (a .level .best) (k .try-at .result) (k .try-at .ensures)
+    read-range (a .m) (a .x .now) (a .y .now) (a .level .best) (k .try-at .result) (k .try-at .ensures)
 
 -- src/plan.rt:114:1
 returns-2 : tie.Need-returns-2
@@ -27,7 +27,7 @@ returns-2 c =
     let a = k .args in
     let l : SFits w32 (a .level .range .low) = search needs in
     let h : SFits w32 (a .level .range .high) = search needs in
-    kept-range (a .x .now) (a .y .now) (a .level) (k .pre) (simp (toZ-ofZ l, toZ-ofZ h) at (c .if1 .left))
+    kept-range (a .m) (a .x .now) (a .y .now) (a .level) (k .pre) (simp (toZ-ofZ l, toZ-ofZ h) at (c .if1 .left))
 
 pub kept-or-read-spec : {M : Type 1} → statement M
 kept-or-read-spec = tie.close (tie.spec try-at-requires returns returns-2)

@@ -14,10 +14,10 @@ use Rattle.best.proofs.rows.even_half.Reads as reads
 use Rattle.best.proofs.rows.even_half.Lts as lts
 
 abbrev Inv-loop : tie.InvT-loop
-Inv-loop x out₀ k i₀ out i = (i ≤ k) × ((length out ≡ length out₀) × Filled (evens (pad x)) i out)
+Inv-loop x m out₀ k i₀ out i = (i ≤ k) × ((length out ≡ length out₀) × Filled (evens (pad x)) i out)
 
 abbrev μ-loop : tie.MeasureT-loop
-μ-loop x out₀ k i₀ out i = k - i
+μ-loop x m out₀ k i₀ out i = k - i
 
 -- src/rows.rt:28:14
 add-k : tie.Need-add-k Inv-loop μ-loop
@@ -71,7 +71,7 @@ same-length c = search needs
 returns : tie.Need-returns Inv-loop μ-loop
 returns c =
     let k = c .before in
-    let e : k .loop .i ≡ half (length (k .before .args .x .now)) = omega arith in
+    let e : k .loop .i ≡ half (k .before .args .m) = omega arith in
     rw e at (k .loop .inv .1 .1)
 
 pub even-half-spec : {M : Type 1} → statement M

@@ -28,8 +28,7 @@ shared-slice-copy-out-result-2 c = search needs
 
 fits : (k : tie.Start) → mag (pad (k .args .x .now) (k .args .i) -ℤ pad (k .args .y .now) (k .args .j)) < 2 ^ 31
 fits k =
-    let p = k .pre .0 .rows in
-    dif-fits (pad (k .args .x .now) (k .args .i)) (pad (k .args .y .now) (k .args .j)) (p .nearBottom (k .args .i) (search needs)) (p .nearTop (k .args .j) (search needs))
+    dif-fits (pad (k .args .x .now) (k .args .i)) (pad (k .args .y .now) (k .args .j)) (k .pre .nearX) (k .pre .nearY)
 
 -- src/trial.rt:20:5
 sub-result : tie.Need-sub-result

@@ -9,7 +9,7 @@ use Rattle.whole.specs.Pick.{largest, smallest}
 use Rattle.whole.proofs.Machine.{back}
 use Rattle.wiring.specs.Wiring.{pad}
 use Rattle.wiring.specs.Fit.{lowEnd, highEnd}
-use Rattle.best.proofs.Ends.{larger-step, smaller-step, low-first, high-first, trial-read}
+use Rattle.best.proofs.Ends.{near-pair, larger-step, smaller-step, low-first, high-first, trial-read}
 use Rattle.best.proofs.trial.try_at.Statement.{statement}
 use Rattle.best.proofs.trial.try_at.Tie as tie
 use Rattle.best.proofs.trial.try_at.Reads as reads
@@ -19,13 +19,13 @@ use Rattle.whole.proofs.larger.Reads as larger-reads
 use Rattle.whole.proofs.smaller.Reads as smaller-reads
 
 abbrev Inv-loop : tie.InvT-loop
-Inv-loop x y s last low₀ high₀ i₀ low high i = 
+Inv-loop x y m s last low₀ high₀ i₀ low high i = 
     (i ≤ last)
     × ((toZ w32 low ≡ largest (lowEnd (pad x) (pad y) s) i)
     × (toZ w32 high ≡ smallest (highEnd (pad x) (pad y) s) i))
 
 abbrev μ-loop : tie.MeasureT-loop
-μ-loop x y s last low₀ high₀ i₀ low high i = last - i
+μ-loop x y m s last low₀ high₀ i₀ low high i = last - i
 
 -- src/trial.rt:28:16
 sub-last : tie.Need-sub-last Inv-loop μ-loop
@@ -37,11 +37,11 @@ sub-last-2 c = search needs
 
 -- src/trial.rt:29:9
 difference-requires : tie.Need-difference-requires Inv-loop μ-loop
-difference-requires c κs = search needs
+difference-requires c κs = let a = c .args in near-pair (a .m) (a .x .now) (a .y .now) 0 (a .s) (c .pre .front) (omega arith) (c .pre .inside)
 
 -- src/trial.rt:30:9
 difference-requires-2 : tie.Need-difference-requires-2 Inv-loop μ-loop
-difference-requires-2 c κs = search needs
+difference-requires-2 c κs = let k = c .before in let a = k .args in near-pair (a .m) (a .x .now) (a .y .now) (a .s) 0 (k .pre .front) (k .pre .inside) (omega arith)
 
 -- src/trial.rt:32:5
 loop-holds : tie.Need-loop-holds Inv-loop μ-loop
@@ -61,7 +61,11 @@ add-difference c = search needs
 
 -- src/trial.rt:34:34
 difference-requires-3 : tie.Need-difference-requires-3 Inv-loop μ-loop
-difference-requires-3 c κs = search needs
+difference-requires-3 c κs =
+    let k = c .before in
+    let e = k .before .before .before in
+    let a = e .args in
+    near-pair (a .m) (a .x .now) (a .y .now) (k .loop .i + 1) (k .loop .i + 1 + a .s) (e .pre .front) (omega arith) (omega arith)
 
 -- src/trial.rt:34:9
 larger-requires : tie.Need-larger-requires Inv-loop μ-loop
@@ -73,7 +77,11 @@ add-difference-2 c = search needs
 
 -- src/trial.rt:35:37
 difference-requires-4 : tie.Need-difference-requires-4 Inv-loop μ-loop
-difference-requires-4 c κs = search needs
+difference-requires-4 c κs =
+    let k = c .before .before .before in
+    let e = k .before .before .before in
+    let a = e .args in
+    near-pair (a .m) (a .x .now) (a .y .now) (k .loop .i + 1 + a .s) (k .loop .i + 1) (e .pre .front) (omega arith) (omega arith)
 
 -- src/trial.rt:35:9
 smaller-requires : tie.Need-smaller-requires Inv-loop μ-loop
@@ -102,19 +110,19 @@ loop-again c =
     )
 
 -- src/trial.rt:39:21
-add-t8 : tie.Need-add-t8 Inv-loop μ-loop
-add-t8 c = search needs
+add-count : tie.Need-add-count Inv-loop μ-loop
+add-count c = search needs
 
 -- src/trial.rt:39:16
-mul-t9 : tie.Need-mul-t9 Inv-loop μ-loop
-mul-t9 c = search needs
+mul-count : tie.Need-mul-count Inv-loop μ-loop
+mul-count c = search needs
 
 -- src/trial.rt:24:1
 returns : tie.Need-returns Inv-loop μ-loop
 returns c =
     let k = c .before in
     let a = k .before .before .before .args in
-    trial-read (a .x .now) (a .y .now) (a .s) (k .loop .i) _ _ (k .before .before .before .pre .inside) (omega arith) (k .loop .inv .1 .0) (k .loop .inv .1 .1)
+    trial-read (a .m) (a .x .now) (a .y .now) (a .s) (k .loop .i) _ _ (k .before .before .before .pre .inside) (omega arith) (k .loop .inv .1 .0) (k .loop .inv .1 .1)
 
 pub try-at-spec : {M : Type 1} → statement M
 try-at-spec =
@@ -136,6 +144,6 @@ try-at-spec =
     smaller-requires
     loop-less
     loop-again
-    add-t8
-    mul-t9
+    add-count
+    mul-count
     returns)
