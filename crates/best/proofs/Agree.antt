@@ -1,15 +1,20 @@
 -- What is worked out for m pairs looks at their first m entries alone.
 use mathlib.Core.Path.{_≡_, refl, sym, ap, _∙_}
 use mathlib.Core.Bool.{Bool, true, false, cond}
+use mathlib.Core.List.{List}
 use Prim.Native.Nat.{ℕ, zero, suc, _+_, _-_, _*_, _/_, _≤_, _<_}
 use native.Mathlib.Omega.{arith}
-use lib.IntN.{ℤ, _-ℤ_}
+use lib.ListN.{take}
+use lib.Seq.{getD-take}
+use lib.IntN.{ℤ, pos, _-ℤ_, natAbs}
 use lib.Signed.{_≤ℤ_, ltZ}
 use Rattle.whole.specs.Pick.{firstBy, largestAt, smallestAt}
+use Rattle.wiring.specs.Wiring.{pad}
 use Rattle.wiring.specs.Fit.{Steady, lowEnd, highEnd, evens, half}
+use Rattle.wiring.proofs.Halving.{evens-steady}
 use Rattle.jumper.specs.Span.{rangeOf}
-use Rattle.best.specs.Halving.{emptyAt, fromEven, fromHalf, halving, levelOver}
-use Rattle.best.proofs.Levels.{one-pair, more-pairs, by-halving}
+use Rattle.best.specs.Halving.{emptyAt, fromEven, fromHalf}
+use Rattle.best.specs.Work.{Filled, Halvable}
 
 abbrev pub Agree : ℕ → (ℕ → ℤ) → (ℕ → ℤ) → Type 0
 Agree m x x' = (i : ℕ) → i < m → x i ≡ x' i
@@ -61,3 +66,33 @@ module _ (m : ℕ) (x y x' y' : ℕ → ℤ) (ax : Agree m x x') (ay : Agree m y
   pub half-agrees : (h c : ℕ) → 1 < m → 4 * h ≤ m + 1 → fromHalf m x y h c ≡ fromHalf m x' y' h c
   unfolding fromHalf fromEven
   half-agrees h c l w = rw (empty-agrees (2 * h - 1) (omega arith), empty-agrees (2 * h) (omega arith))
+
+-- pairs that can be halved: by another name, and their even half
+pub halvable-agrees : {m : ℕ} {x y x' y' : ℕ → ℤ} → Halvable m x y → Agree m x x' → Agree m y y' → Halvable m x' y'
+halvable-agrees {m} {x} {y} {x'} {y'} h ax ay =
+    record {
+      some = h .some;
+      few = h .few;
+      bottom = steady-agrees ax (h .bottom);
+      top = steady-agrees ay (h .top);
+      nearBottom = λ i l. rw (← ax i l) (h .nearBottom i l);
+      nearTop = λ i l. rw (← ay i l) (h .nearTop i l);
+    }
+
+pub halvable-evens : {m : ℕ} {x y : ℕ → ℤ} → 1 < m → Halvable m x y → Halvable (half m) (evens x) (evens y)
+halvable-evens {m} {x} {y} l h =
+    record {
+      some = omega arith;
+      few = omega (arith, h .few);
+      bottom = evens-steady (h .bottom);
+      top = evens-steady (h .top);
+      nearBottom = λ i g. h .nearBottom (2 * i) (omega arith);
+      nearTop = λ i g. h .nearTop (2 * i) (omega arith);
+    }
+
+-- what is filled, and what stands in front of a list, by its entries
+pub filled-agrees : {f : ℕ → ℤ} {n : ℕ} {out : List ℤ} → Filled f n out → Agree n f (pad out)
+filled-agrees g i h = sym (g .entry i h)
+
+pub front-agrees : (m : ℕ) (x x' : List ℤ) → take m x' ≡ take m x → Agree m (pad x) (pad x')
+front-agrees m x x' e i h = sym (getD-take m x i (pos 0) h) ∙ ap (λ (l : List ℤ). pad l i) (sym e) ∙ getD-take m x' i (pos 0) h

@@ -46,6 +46,9 @@ unfolding levelsIn
 more-levels zero h = absurd (omega arith)
 more-levels (suc f) h = rw (lt-ltb 1 (suc f) h, enough-levels f (half (suc f)) (half (suc f)) (omega arith) (omega arith))
 
+pub some-levels : (m : ℕ) → 1 ≤ m → 1 ≤ levels m
+some-levels m h = ⊎-elim (λ e. rw (← e, one-level) (omega arith)) (λ l. omega (arith, more-levels m l)) (eq-or-lt-of-le h)
+
 -- what holds of one pair, and of more if it holds of their even half, holds of every level
 module _ (P : ℕ → (ℕ → ℤ) → (ℕ → ℤ) → Type 0)
     (one : (x y : ℕ → ℤ) → P 1 x y)

@@ -6,3 +6,4 @@ pub mod Levels
 pub mod Bests
 mod Choices
 mod Ladders
+mod Climbs
