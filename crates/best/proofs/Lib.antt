@@ -7,3 +7,4 @@ pub mod Bests
 mod Choices
 mod Ladders
 mod Climbs
+mod Plans

@@ -83,7 +83,7 @@ fn in_room_512(a: &[i32], b: &[i32], ladder: &mut [usize]) -> Planned
 }
 
 fn in_room_2048(a: &[i32], b: &[i32], ladder: &mut [usize]) -> Planned
-    requires { ⌜ Plannable (now a) (now b) (now ladder) ⌝ }
+    requires { ⌜ Plannable (now a) (now b) (now ladder) × (length (now a) ≤ 2048) ⌝ }
     ensures { λ r. ⌜ IsPlanned (now (a .entry)) (now (b .entry)) (now (ladder .entry)) (now (ladder .exit)) r ⌝ }
 {
     let mut x = [0i32; 4096];

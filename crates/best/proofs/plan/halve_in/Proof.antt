@@ -1,4 +1,6 @@
+use mathlib.Core.Path.{_≡_, _∙_}
 use borrow.Author.Needs.{needs}
+use Rattle.best.proofs.Plans.{climb-plan, keeps-plan, planned}
 use Rattle.best.proofs.plan.halve_in.Statement.{statement}
 use Rattle.best.proofs.plan.halve_in.Tie as tie
 use Rattle.best.proofs.plan.halve_in.Reads as reads
@@ -17,11 +19,23 @@ lower-requires-2 c κs = search needs
 
 -- src/plan.rt:104:9
 climb-requires : tie.Need-climb-requires
-climb-requires c κs = ?
+climb-requires c κs =
+    let j = c .before .before .before .before .before .before in
+    let k = j .before .before .before in
+    let s = k .before .before .before in
+    let a = s .args in
+    climb-plan (a .a .now) (a .b .now) (a .x .now) (a .y .now) (a .hx .now) (a .hy .now) (a .ladder .now) (s .pre .0) (s .pre .1) _ _ (k .lower .ensures) (j .lower2 .ensures) (k .lower .kept .1 .0) (j .lower2 .kept .1 .0)
 
 -- src/plan.rt:105:9
 kept-or-read-requires : tie.Need-kept-or-read-requires
-kept-or-read-requires c κs = ?
+kept-or-read-requires c κs =
+    let i = c .before .before .before .before .before .before .before .before in
+    let j = i .before .before .before .before .before .before .before in
+    let k = j .before .before .before in
+    let s = k .before .before .before in
+    let a = s .args in
+    keeps-plan (a .a .now) (a .b .now) (a .x .now) (a .y .now) (a .hx .now) (a .hy .now) (a .ladder .now) (s .pre .0) (s .pre .1) _ _ (k .lower .ensures) (j .lower2 .ensures)
+    _ _ _ (i .climb .result) (i .climb .ensures) (i .climb .kept .0 ∙ k .lower .kept .1 .0) (i .climb .kept .1 .0 ∙ j .lower2 .kept .1 .0)
 
 -- src/plan.rt:97:1
 same-length : tie.Need-same-length
@@ -45,7 +59,14 @@ same-length-5 c = search needs
 
 -- src/plan.rt:97:1
 returns : tie.Need-returns
-returns c = ?
+returns c =
+    let i = c .before .before .before .before .before .before .before .before .before in
+    let j = i .before .before .before .before .before .before .before in
+    let k = j .before .before .before in
+    let s = k .before .before .before in
+    let a = s .args in
+    planned (a .a .now) (a .b .now) (a .x .now) (a .y .now) (a .hx .now) (a .hy .now) (a .ladder .now) (s .pre .0) (s .pre .1) _ _ (k .lower .ensures) (j .lower2 .ensures)
+    _ _ _ (i .climb .result) (i .climb .ensures) (c .kept-or-read .result) (c .kept-or-read .ensures)
 
 pub halve-in-spec : {M : Type 1} → statement M
 halve-in-spec =

@@ -1,3 +1,4 @@
+use native.Mathlib.Omega.{arith}
 use borrow.Author.Needs.{needs}
 use Rattle.best.proofs.plan.in_room_2048.Statement.{statement}
 use Rattle.best.proofs.plan.in_room_2048.Tie as tie
@@ -23,7 +24,9 @@ slice-aggregate-halve-in-4 c = search needs
 
 -- src/plan.rt:93:5
 halve-in-requires : tie.Need-halve-in-requires
-halve-in-requires c κs = ?
+halve-in-requires c κs =
+    let p = c .before .before .before .before .before .before .pre in
+    (p .0, record { bottom = omega (arith, p .1); top = omega (arith, p .1); halfBottom = omega (arith, p .1); halfTop = omega (arith, p .1) })
 
 -- src/plan.rt:85:1
 same-length : tie.Need-same-length
