@@ -112,10 +112,10 @@ halving-agrees =
     by-halving (λ m x y. Steady m x → Steady m y → (x' y' : ℕ → ℤ) → Agree m x x' → Agree m y y' → halving m x y ≡ halving m x' y')
     (λ x y sx sy x' y' ax ay. one-pair x y ∙ sym (one-pair x' y'))
     (λ m x y l ih sx sy x' y' ax ay.
-        let e = halving (half m) (evens x) (evens y) in
-        let b = best-is-best (half m) (evens x) (evens y) (omega arith) (evens-steady sx) (evens-steady sy) in
-        let q = ih (evens-steady sx) (evens-steady sy) (evens x') (evens y') (evens-agree ax) (evens-agree ay) in
-        more-pairs m x y l ∙ rw (half-agrees m x y x' y' ax ay (e .best) (e .count) l (omega (arith, b .within)), q) (sym (more-pairs m x' y' l)))
+    let e = halving (half m) (evens x) (evens y) in
+    let b = best-is-best (half m) (evens x) (evens y) (omega arith) (evens-steady sx) (evens-steady sy) in
+    let q = ih (evens-steady sx) (evens-steady sy) (evens x') (evens y') (evens-agree ax) (evens-agree ay) in
+    more-pairs m x y l ∙ rw (half-agrees m x y x' y' ax ay (e .best) (e .count) l (omega (arith, b .within)), q) (sym (more-pairs m x' y' l)))
 
 -- two differences a pair at most are read before 2h is tried
 past-read : (m : ℕ) (x y : ℕ → ℤ) (h c c' : ℕ) → Past m x y h c c' → c' ≤ c + 2 * m

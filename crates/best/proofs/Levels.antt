@@ -7,7 +7,7 @@ use native.Mathlib.Nat.{eq-or-lt-of-le}
 use native.Mathlib.Omega.{arith}
 use borrow.Author.Tests.{lt-ltb, le-ltb, ltb-true, ltb-false}
 use lib.Dec.{ltb}
-use lib.IntN.{ℤ}
+use lib.IntN.{ℤ, pos}
 use Rattle.wiring.specs.Fit.{evens, half}
 use Rattle.best.specs.Halving.{emptyAt, readAt, Taken, taken, fromEven, fromHalf, Halving, onePair, levelOver, halvingIn, halving, levelsIn, levels}
 
@@ -60,6 +60,11 @@ module _ (P : ℕ → (ℕ → ℤ) → (ℕ → ℤ) → Type 0)
 
   pub by-halving : (m : ℕ) (x y : ℕ → ℤ) → 1 ≤ m → P m x y
   by-halving m x y q = up-to m m x y (omega arith) q
+
+-- there are no more levels than pairs
+pub few-levels : (m : ℕ) → 1 ≤ m → levels m ≤ m
+few-levels m h =
+    by-halving (λ n x y. levels n ≤ n) (λ x y. rw one-level (omega arith)) (λ n x y l ih. omega (arith, more-levels n l, ih)) m (λ i. pos 0) (λ i. pos 0) h
 
 -- how a level comes to its best, c differences having been read for the even half: at 2h-1; or past it, with c' read, at 2h or 2h+1
 pub record Past (m : ℕ) (x y : ℕ → ℤ) (h c c' : ℕ) : Type 0 where

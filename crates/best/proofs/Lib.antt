@@ -8,3 +8,4 @@ mod Choices
 mod Ladders
 mod Climbs
 mod Plans
+mod Answers

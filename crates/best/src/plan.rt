@@ -94,7 +94,15 @@ fn in_room_2048(a: &[i32], b: &[i32], ladder: &mut [usize]) -> Planned
 }
 
 // In lent room: the rows are lowered once, and the range of an untried answer is read at the end, outside the count.
-fn halve_in(a: &[i32], b: &[i32], x: &mut [i32], y: &mut [i32], hx: &mut [i32], hy: &mut [i32], ladder: &mut [usize]) -> Planned
+fn halve_in(
+    a: &[i32],
+    b: &[i32],
+    x: &mut [i32],
+    y: &mut [i32],
+    hx: &mut [i32],
+    hy: &mut [i32],
+    ladder: &mut [usize],
+) -> Planned
     requires { ⌜ Plannable (now a) (now b) (now ladder) × Room (length (now a)) (now x) (now y) (now hx) (now hy) ⌝ }
     ensures { λ r. ⌜ IsPlanned (now (a .entry)) (now (b .entry)) (now (ladder .entry)) (now (ladder .exit)) r ⌝ }
 {

@@ -52,7 +52,7 @@ climb-same-length : (t : ℕ) → climb-lts.Need-same-length (told t) (climb-at 
 climb-same-length t c = search needs
 
 climb-returns : (t : ℕ) → climb-lts.Need-returns (told t) (climb-at t) climb.Post
-climb-returns t c = 
+climb-returns t c =
     let k = c .before .before .before in
     let s = k .before .before .before .before in
     let a = s .args in
@@ -101,7 +101,7 @@ climb-part-climb-end-3 : (t : ℕ) → climb-lts.Need-part-climb-end-3 (told t) 
 climb-part-climb-end-3 t c = search needs
 
 climb-climb-requires : (t : ℕ) → climb-lts.Need-climb-requires (told t) (climb-at t) climb.Post
-climb-climb-requires t c κs = 
+climb-climb-requires t c κs =
     let k = c .before .before .before .before .before .before in
     let j = k .before .before .before .before in
     let s = j .before .before .before .before .before in
@@ -117,7 +117,7 @@ climb-climb-requires t c κs =
     )
 
 climb-choose-requires : (t : ℕ) → climb-lts.Need-choose-requires (told t) (climb-at t) climb.Post
-climb-choose-requires t c κs = 
+climb-choose-requires t c κs =
     let k = c .before .before .before .before .before .before .before .before in
     let i = k .before .before .before .before .before .before .before in
     let j = i .before .before .before .before in
@@ -134,7 +134,7 @@ climb-choose-requires t c κs =
     (same-len-mid (a .m) (length x - a .m) x (k .climb .last .1 .1 .0) (k .climb .kept .1 .1 .0)) (same-len-mid (a .m) (length y - a .m) y (k .climb .last .1 .1 .1 .0) (k .climb .kept .1 .1 .1 .0))
 
 climb-set-rung-requires-2 : (t : ℕ) → climb-lts.Need-set-rung-requires-2 (told t) (climb-at t) climb.Post
-climb-set-rung-requires-2 t c κs = 
+climb-set-rung-requires-2 t c κs =
     let k = c .before .before .before .before .before .before .before .before .before .before in
     let s = k .before .before .before .before .before .before .before .before .before .before .before .before .before .before .before .before in
     let l = s .args .ladder .now in
@@ -156,7 +156,7 @@ climb-same-length-6 : (t : ℕ) → climb-lts.Need-same-length-6 (told t) (climb
 climb-same-length-6 t c = search needs
 
 climb-returns-2 : (t : ℕ) → climb-lts.Need-returns-2 (told t) (climb-at t) climb.Post
-climb-returns-2 t c = 
+climb-returns-2 t c =
     let n = c .before .before in
     let h = n .before .before in
     let k = h .before .before .before .before .before .before .before .before .before in

@@ -19,7 +19,7 @@ use Rattle.whole.proofs.larger.Reads as larger-reads
 use Rattle.whole.proofs.smaller.Reads as smaller-reads
 
 abbrev Inv-loop : tie.InvT-loop
-Inv-loop x y m s last low₀ high₀ i₀ low high i = 
+Inv-loop x y m s last low₀ high₀ i₀ low high i =
     (i ≤ last)
     × ((toZ w32 low ≡ largest (lowEnd (pad x) (pad y) s) i)
     × (toZ w32 high ≡ smallest (highEnd (pad x) (pad y) s) i))
