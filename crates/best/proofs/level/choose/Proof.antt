@@ -14,41 +14,30 @@ use Rattle.best.proofs.Levels.{from-none, from-past}
 use Rattle.best.proofs.Choices.{open-odd, past-odd, trial-few}
 use Rattle.best.proofs.level.choose.Statement.{statement}
 use Rattle.best.proofs.level.choose.Tie as tie
-use Rattle.best.proofs.level.choose.Reads as reads
-use Rattle.best.proofs.level.choose.Lts as lts
-use Rattle.best.proofs.level.try_even.Reads as try-even-reads
-use Rattle.best.proofs.trial.try_at.Reads as try-at-reads
 
--- src/level.rt:59:9
 try-even-requires : tie.Need-try-even-requires
 try-even-requires c κs = search needs
 
--- src/level.rt:59:9
 returns : tie.Need-returns
 returns c =
     let a = c .before .before .args in
     rw (from-none (a .m) (pad (a .x .now)) (pad (a .y .now)) (a .h) (a .read) (c .before .if1 .taken)) (c .try-even .ensures)
 
--- src/level.rt:61:13
 mul-s : tie.Need-mul-s
 mul-s c = search needs
 
--- src/level.rt:61:13
 sub-s : tie.Need-sub-s
 sub-s c = search needs
 
--- src/level.rt:62:9
 try-at-requires : tie.Need-try-at-requires
 try-at-requires c κs = search needs
 
--- src/level.rt:64:17
 add-count : tie.Need-add-count
 add-count c =
     let k = c .before .before in
     let s = k .before .before in
     omega (arith, trial-few (s .args .m) (s .args .x .now) (s .args .y .now) (2 * s .args .h - 1) (k .try-at .result) (k .try-at .ensures), s .pre .cheap, s .pre .front .rows .few)
 
--- src/level.rt:66:9
 try-even-requires-2 : tie.Need-try-even-requires-2
 try-even-requires-2 c κs =
     let k = c .before .before .before .before .before in
@@ -56,7 +45,6 @@ try-even-requires-2 c κs =
     let p = s .pre in
     record { front = p .front; more = p .more; within = p .within; cheap = omega (arith, trial-few (s .args .m) (s .args .x .now) (s .args .y .now) (2 * s .args .h - 1) (k .try-at .result) (k .try-at .ensures), p .cheap, p .front .rows .few) }
 
--- src/level.rt:66:9
 returns-2 : tie.Need-returns-2
 returns-2 c =
     let j = c .before in
@@ -67,7 +55,6 @@ returns-2 c =
     let h : SFits w32 (r .range .high) = search needs in
     past-odd (a .m) (a .x .now) (a .y .now) (a .h) (a .read) r _ (pos-of-ne-zero (k .before .if1 .left)) (k .try-at .ensures) (simp (toZ-ofZ l, toZ-ofZ h) at (j .if2 .taken)) (c .try-even2 .ensures)
 
--- src/level.rt:54:1
 returns-3 : tie.Need-returns-3
 returns-3 c =
     let k = c .before .before .before .before .before in

@@ -7,8 +7,6 @@ use Rattle.best.specs.Halving.{levels}
 use Rattle.best.proofs.Levels.{one-level, more-levels}
 use Rattle.best.proofs.level.count_levels.Statement.{statement}
 use Rattle.best.proofs.level.count_levels.Tie as tie
-use Rattle.best.proofs.level.count_levels.Reads as reads
-use Rattle.best.proofs.level.count_levels.Lts as lts
 
 abbrev Inv-loop : tie.InvT-loop
 Inv-loop n m₀ count₀ m count = (1 ≤ m) × ((m + count ≤ n + 1) × (levels n + 1 ≡ levels m + count))
@@ -16,27 +14,21 @@ Inv-loop n m₀ count₀ m count = (1 ≤ m) × ((m + count ≤ n + 1) × (level
 abbrev μ-loop : tie.MeasureT-loop
 μ-loop n m₀ count₀ m count = m
 
--- src/level.rt:91:5
 loop-holds : tie.Need-loop-holds Inv-loop μ-loop
 loop-holds c = search needs
 
--- src/level.rt:92:14
 add-m : tie.Need-add-m Inv-loop μ-loop
 add-m c = search needs
 
--- src/level.rt:93:9
 add-count : tie.Need-add-count Inv-loop μ-loop
 add-count c = search needs
 
--- src/level.rt:91:5
 loop-less : tie.Need-loop-less Inv-loop μ-loop
 loop-less c = search needs
 
--- src/level.rt:91:5
 loop-again : tie.Need-loop-again Inv-loop μ-loop
 loop-again c = let e = more-levels (c .before .loop .m) (c .loop-test .taken) in (omega arith, (omega arith, omega arith))
 
--- src/level.rt:85:1
 returns : tie.Need-returns Inv-loop μ-loop
 returns c =
     let e : c .before .loop .m ≡ 1 = omega arith in

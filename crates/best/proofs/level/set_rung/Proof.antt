@@ -2,22 +2,16 @@ use borrow.Author.Needs.{needs}
 use Rattle.best.proofs.Ladders.{rung-set}
 use Rattle.best.proofs.level.set_rung.Statement.{statement}
 use Rattle.best.proofs.level.set_rung.Tie as tie
-use Rattle.best.proofs.level.set_rung.Reads as reads
-use Rattle.best.proofs.level.set_rung.Lts as lts
 
--- src/level.rt:80:5
 slice-write-ladder : tie.Need-slice-write-ladder
 slice-write-ladder c = search needs
 
--- src/level.rt:81:5
 slice-write-ladder-2 : tie.Need-slice-write-ladder-2
 slice-write-ladder-2 c = search needs
 
--- src/level.rt:76:1
 same-length : tie.Need-same-length
 same-length c = search needs
 
--- src/level.rt:76:1
 returns : tie.Need-returns
 returns c = rung-set (c .args .ladder .now) (c .args .size) (c .args .best) (c .pre)
 

@@ -7,29 +7,21 @@ use mir.Val.{SFits}
 use Rattle.best.proofs.Choices.{empty-even, open-even, trial-few}
 use Rattle.best.proofs.level.try_even.Statement.{statement}
 use Rattle.best.proofs.level.try_even.Tie as tie
-use Rattle.best.proofs.level.try_even.Reads as reads
-use Rattle.best.proofs.level.try_even.Lts as lts
-use Rattle.best.proofs.trial.try_at.Reads as try-at-reads
 
--- src/level.rt:35:13
 mul-s : tie.Need-mul-s
 mul-s c = search needs
 
--- src/level.rt:36:9
 try-at-requires : tie.Need-try-at-requires
 try-at-requires c κs = search needs
 
--- src/level.rt:38:17
 add-count : tie.Need-add-count
 add-count c =
     let k = c .before .before .before in
     omega (arith, trial-few (k .args .m) (k .args .x .now) (k .args .y .now) (2 * k .args .h) (c .before .before .try-at .result) (c .before .before .try-at .ensures), k .pre .cheap, k .pre .front .rows .few)
 
--- src/level.rt:41:19
 add-best : tie.Need-add-best
 add-best c = search needs
 
--- src/level.rt:40:9
 returns : tie.Need-returns
 returns c =
     let k = c .before .before .before .before .before in
@@ -39,7 +31,6 @@ returns c =
     let h : SFits w32 (r .range .high) = search needs in
     empty-even (a .m) (a .x .now) (a .y .now) (a .h) (a .read) r (k .try-at .ensures) (simp (toZ-ofZ l, toZ-ofZ h) at (c .if1 .taken))
 
--- src/level.rt:31:1
 returns-2 : tie.Need-returns-2
 returns-2 c =
     let k = c .before .before .before .before .before in

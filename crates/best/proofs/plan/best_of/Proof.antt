@@ -8,21 +8,13 @@ use Rattle.best.proofs.Levels.{few-levels}
 use Rattle.best.proofs.Answers.{rows-refused, buffer-short, found, ladder-rungs, plannable}
 use Rattle.best.proofs.plan.best_of.Statement.{statement}
 use Rattle.best.proofs.plan.best_of.Tie as tie
-use Rattle.best.proofs.plan.best_of.Reads as reads
-use Rattle.best.proofs.plan.best_of.Lts as lts
-use Rattle.best.proofs.level.count_levels.Reads as count-levels-reads
-use Rattle.best.proofs.plan.halve.Reads as halve-reads
-use Rattle.jumper.proofs.rows.check_rows.Reads as check-rows-reads
 
--- src/plan.rt:37:11
 check-rows-requires : tie.Need-check-rows-requires
 check-rows-requires c κs = search needs
 
--- src/plan.rt:38:26
 enum-known-r : tie.Need-enum-known-r
 enum-known-r c = search needs
 
--- src/plan.rt:40:16
 enum-told : tie.Need-enum-told
 enum-told c = search needs
 
@@ -36,14 +28,12 @@ count-levels-requires c κs =
     let r = rows-of (a .a .now) (a .b .now) (accepted c) in
     (r .some, r .few)
 
--- src/plan.rt:40:31
 mul-if1 : tie.Need-mul-if1
 mul-if1 c =
     let a = c .before .before .before .before .before .args in
     let r = rows-of (a .a .now) (a .b .now) (accepted (c .before)) in
     omega (arith, c .count-levels .ensures, few-levels _ (r .some), r .few)
 
--- src/plan.rt:41:17
 returns : tie.Need-returns
 returns c =
     let k = c .before in
@@ -51,25 +41,21 @@ returns c =
     buffer-short (a .a .now) (a .b .now) (a .ladder .now) (accepted (k .before))
     (omega (arith, c .if1 .taken, k .count-levels .ensures, ladder-rungs (a .a .now) (a .b .now) (a .ladder .now) (accepted (k .before))))
 
--- src/plan.rt:43:25
 halve-requires : tie.Need-halve-requires
 halve-requires c κs =
     let k = c .before .before in
     let a = k .before .before .before .before .before .args in
     plannable (a .a .now) (a .b .now) (a .ladder .now) (accepted (k .before)) (omega (arith, c .before .if1 .left, k .count-levels .ensures))
 
--- src/plan.rt:34:1
 returns-2 : tie.Need-returns-2
 returns-2 c =
     let k = c .before in
     let a = k .before .before .before .before .args in
     rows-refused (a .a .now) (a .b .now) (a .ladder .now) _ (sym (k .before .before .check-rows .ensures .answer) ∙ k .r .given .1)
 
--- src/plan.rt:34:1
 same-length : tie.Need-same-length
 same-length c = search needs
 
--- src/plan.rt:34:1
 returns-3 : tie.Need-returns-3
 returns-3 c =
     let h = c .before .before in

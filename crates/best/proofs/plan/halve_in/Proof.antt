@@ -3,21 +3,13 @@ use borrow.Author.Needs.{needs}
 use Rattle.best.proofs.Plans.{climb-plan, keeps-plan, planned}
 use Rattle.best.proofs.plan.halve_in.Statement.{statement}
 use Rattle.best.proofs.plan.halve_in.Tie as tie
-use Rattle.best.proofs.plan.halve_in.Reads as reads
-use Rattle.best.proofs.plan.halve_in.Lts as lts
-use Rattle.best.proofs.climb.climb.Reads as climb-reads
-use Rattle.best.proofs.plan.kept_or_read.Reads as kept-or-read-reads
-use Rattle.best.proofs.rows.lower.Reads as lower-reads
 
--- src/plan.rt:102:5
 lower-requires : tie.Need-lower-requires
 lower-requires c κs = search needs
 
--- src/plan.rt:103:5
 lower-requires-2 : tie.Need-lower-requires-2
 lower-requires-2 c κs = search needs
 
--- src/plan.rt:104:9
 climb-requires : tie.Need-climb-requires
 climb-requires c κs =
     let j = c .before .before .before .before .before .before in
@@ -26,7 +18,6 @@ climb-requires c κs =
     let a = s .args in
     climb-plan (a .a .now) (a .b .now) (a .x .now) (a .y .now) (a .hx .now) (a .hy .now) (a .ladder .now) (s .pre .0) (s .pre .1) _ _ (k .lower .ensures) (j .lower2 .ensures) (k .lower .kept .1 .0) (j .lower2 .kept .1 .0)
 
--- src/plan.rt:105:9
 kept-or-read-requires : tie.Need-kept-or-read-requires
 kept-or-read-requires c κs =
     let i = c .before .before .before .before .before .before .before .before in
@@ -37,27 +28,21 @@ kept-or-read-requires c κs =
     keeps-plan (a .a .now) (a .b .now) (a .x .now) (a .y .now) (a .hx .now) (a .hy .now) (a .ladder .now) (s .pre .0) (s .pre .1) _ _ (k .lower .ensures) (j .lower2 .ensures)
     _ _ _ (i .climb .result) (i .climb .ensures) (i .climb .kept .0 ∙ k .lower .kept .1 .0) (i .climb .kept .1 .0 ∙ j .lower2 .kept .1 .0)
 
--- src/plan.rt:97:1
 same-length : tie.Need-same-length
 same-length c = search needs
 
--- src/plan.rt:97:1
 same-length-2 : tie.Need-same-length-2
 same-length-2 c = search needs
 
--- src/plan.rt:97:1
 same-length-3 : tie.Need-same-length-3
 same-length-3 c = search needs
 
--- src/plan.rt:97:1
 same-length-4 : tie.Need-same-length-4
 same-length-4 c = search needs
 
--- src/plan.rt:97:1
 same-length-5 : tie.Need-same-length-5
 same-length-5 c = search needs
 
--- src/plan.rt:97:1
 returns : tie.Need-returns
 returns c =
     let i = c .before .before .before .before .before .before .before .before .before in

@@ -2,37 +2,27 @@ use native.Mathlib.Omega.{arith}
 use borrow.Author.Needs.{needs}
 use Rattle.best.proofs.plan.in_room_2048.Statement.{statement}
 use Rattle.best.proofs.plan.in_room_2048.Tie as tie
-use Rattle.best.proofs.plan.in_room_2048.Reads as reads
-use Rattle.best.proofs.plan.in_room_2048.Lts as lts
-use Rattle.best.proofs.plan.halve_in.Reads as halve-in-reads
 
--- src/plan.rt:93:20
 slice-aggregate-halve-in : tie.Need-slice-aggregate-halve-in
 slice-aggregate-halve-in c = search needs
 
--- src/plan.rt:93:28
 slice-aggregate-halve-in-2 : tie.Need-slice-aggregate-halve-in-2
 slice-aggregate-halve-in-2 c = search needs
 
--- src/plan.rt:93:36
 slice-aggregate-halve-in-3 : tie.Need-slice-aggregate-halve-in-3
 slice-aggregate-halve-in-3 c = search needs
 
--- src/plan.rt:93:45
 slice-aggregate-halve-in-4 : tie.Need-slice-aggregate-halve-in-4
 slice-aggregate-halve-in-4 c = search needs
 
--- src/plan.rt:93:5
 halve-in-requires : tie.Need-halve-in-requires
 halve-in-requires c κs =
     let p = c .before .before .before .before .before .before .pre in
     (p .0, record { bottom = omega (arith, p .1); top = omega (arith, p .1); halfBottom = omega (arith, p .1); halfTop = omega (arith, p .1) })
 
--- src/plan.rt:85:1
 same-length : tie.Need-same-length
 same-length c = search needs
 
--- src/plan.rt:85:1
 returns : tie.Need-returns
 returns c = search needs
 

@@ -5,22 +5,16 @@ use mir.Val.{SFits}
 use Rattle.best.proofs.Choices.{read-range, kept-range}
 use Rattle.best.proofs.plan.kept_or_read.Statement.{statement}
 use Rattle.best.proofs.plan.kept_or_read.Tie as tie
-use Rattle.best.proofs.plan.kept_or_read.Reads as reads
-use Rattle.best.proofs.plan.kept_or_read.Lts as lts
-use Rattle.best.proofs.trial.try_at.Reads as try-at-reads
 
--- src/plan.rt:121:13
 try-at-requires : tie.Need-try-at-requires
 try-at-requires c κs = search needs
 
--- src/plan.rt:123:9
 returns : tie.Need-returns
 returns c =
     let k = c .before in
     let a = k .before .before .before .before .before .args in
     read-range (a .m) (a .x .now) (a .y .now) (a .level .best) (k .try-at .result) (k .try-at .ensures)
 
--- src/plan.rt:114:1
 returns-2 : tie.Need-returns-2
 returns-2 c =
     let k = c .before .before .before .before in

@@ -11,8 +11,6 @@ use Rattle.best.proofs.Fill.{none-filled, one-filled}
 use Rattle.best.proofs.Lean.{lowered}
 use Rattle.best.proofs.rows.lower.Statement.{statement}
 use Rattle.best.proofs.rows.lower.Tie as tie
-use Rattle.best.proofs.rows.lower.Reads as reads
-use Rattle.best.proofs.rows.lower.Lts as lts
 
 abbrev Inv-loop : tie.InvT-loop
 Inv-loop a out₀ n i₀ out i = (i ≤ n) × ((length out ≡ length out₀) × Filled (leanOf a) i out)
@@ -20,23 +18,18 @@ Inv-loop a out₀ n i₀ out i = (i ≤ n) × ((length out ≡ length out₀) ×
 abbrev μ-loop : tie.MeasureT-loop
 μ-loop a out₀ n i₀ out i = n - i
 
--- src/rows.rt:17:5
 loop-holds : tie.Need-loop-holds Inv-loop μ-loop
 loop-holds c = (search needs, (refl, none-filled (leanOf (c .args .a .now)) (c .args .out .now)))
 
--- src/rows.rt:18:18
 mul-out : tie.Need-mul-out Inv-loop μ-loop
 mul-out c = search needs
 
--- src/rows.rt:18:18
 shared-slice-copy-out-out : tie.Need-shared-slice-copy-out-out Inv-loop μ-loop
 shared-slice-copy-out-out c = search needs
 
--- src/rows.rt:18:25
 cast-out : tie.Need-cast-out Inv-loop μ-loop
 cast-out c = record { sfits = omega (arith, c .before .before .before .pre .1) }
 
--- src/rows.rt:18:18
 sub-out : tie.Need-sub-out Inv-loop μ-loop
 sub-out c =
     let k = c .before .before in
@@ -45,23 +38,18 @@ sub-out c =
     let f = lowered a i (k .before .pre .0) (omega arith) in
     rw (back (pad a i) (c .out .given), f .bits) (record { sfits = f .fits })
 
--- src/rows.rt:18:9
 mul-t11 : tie.Need-mul-t11 Inv-loop μ-loop
 mul-t11 c = search needs
 
--- src/rows.rt:18:9
 slice-set-from-out : tie.Need-slice-set-from-out Inv-loop μ-loop
 slice-set-from-out c = search needs
 
--- src/rows.rt:19:9
 add-i : tie.Need-add-i Inv-loop μ-loop
 add-i c = search needs
 
--- src/rows.rt:17:5
 loop-less : tie.Need-loop-less Inv-loop μ-loop
 loop-less c = search needs
 
--- src/rows.rt:17:5
 loop-again : tie.Need-loop-again Inv-loop μ-loop
 loop-again c =
     let k = c .before .before in
@@ -71,11 +59,9 @@ loop-again c =
     rw (back (pad a i) (c .out .given), f .bits, back (leanOf a i) (f .fits))
     (omega arith, (length-set (k .loop .out) i (leanOf a i) ∙ k .loop .inv .1 .0, one-filled (leanOf a) i (k .loop .out) (leanOf a i) (k .loop .inv .1 .1) (omega arith) refl))
 
--- src/rows.rt:11:1
 same-length : tie.Need-same-length Inv-loop μ-loop
 same-length c = search needs
 
--- src/rows.rt:11:1
 returns : tie.Need-returns Inv-loop μ-loop
 returns c =
     let k = c .before in

@@ -7,22 +7,16 @@ use Rattle.wiring.specs.Wiring.{pad}
 use native.Mathlib.Omega.{arith}
 use Rattle.best.proofs.trial.difference.Statement.{statement}
 use Rattle.best.proofs.trial.difference.Tie as tie
-use Rattle.best.proofs.trial.difference.Reads as reads
-use Rattle.best.proofs.trial.difference.Lts as lts
 
--- src/trial.rt:20:5
 mul-result : tie.Need-mul-result
 mul-result c = search needs
 
--- src/trial.rt:20:5
 shared-slice-copy-out-result : tie.Need-shared-slice-copy-out-result
 shared-slice-copy-out-result c = search needs
 
--- src/trial.rt:20:12
 mul-result-2 : tie.Need-mul-result-2
 mul-result-2 c = search needs
 
--- src/trial.rt:20:12
 shared-slice-copy-out-result-2 : tie.Need-shared-slice-copy-out-result-2
 shared-slice-copy-out-result-2 c = search needs
 
@@ -30,14 +24,12 @@ fits : (k : tie.Start) → mag (pad (k .args .x .now) (k .args .i) -ℤ pad (k .
 fits k =
     dif-fits (pad (k .args .x .now) (k .args .i)) (pad (k .args .y .now) (k .args .j)) (k .pre .nearX) (k .pre .nearY)
 
--- src/trial.rt:20:5
 sub-result : tie.Need-sub-result
 sub-result c =
     let k = c .before .before in
     rw (back (pad (k .args .x .now) (k .args .i)) (c .before .result .given), back (pad (k .args .y .now) (k .args .j)) (c .result2 .given))
     (record { sfits = fits k })
 
--- src/trial.rt:16:1
 returns : tie.Need-returns
 returns c =
     let k = c .before .before in

@@ -12,11 +12,6 @@ use Rattle.wiring.specs.Fit.{lowEnd, highEnd}
 use Rattle.best.proofs.Ends.{near-pair, larger-step, smaller-step, low-first, high-first, trial-read}
 use Rattle.best.proofs.trial.try_at.Statement.{statement}
 use Rattle.best.proofs.trial.try_at.Tie as tie
-use Rattle.best.proofs.trial.try_at.Reads as reads
-use Rattle.best.proofs.trial.try_at.Lts as lts
-use Rattle.best.proofs.trial.difference.Reads as difference-reads
-use Rattle.whole.proofs.larger.Reads as larger-reads
-use Rattle.whole.proofs.smaller.Reads as smaller-reads
 
 abbrev Inv-loop : tie.InvT-loop
 Inv-loop x y m s last low₀ high₀ i₀ low high i =
@@ -27,23 +22,18 @@ Inv-loop x y m s last low₀ high₀ i₀ low high i =
 abbrev μ-loop : tie.MeasureT-loop
 μ-loop x y m s last low₀ high₀ i₀ low high i = last - i
 
--- src/trial.rt:28:16
 sub-last : tie.Need-sub-last Inv-loop μ-loop
 sub-last c = search needs
 
--- src/trial.rt:28:16
 sub-last-2 : tie.Need-sub-last-2 Inv-loop μ-loop
 sub-last-2 c = search needs
 
--- src/trial.rt:29:9
 difference-requires : tie.Need-difference-requires Inv-loop μ-loop
 difference-requires c κs = let a = c .args in near-pair (a .m) (a .x .now) (a .y .now) 0 (a .s) (c .pre .front) (omega arith) (c .pre .inside)
 
--- src/trial.rt:30:9
 difference-requires-2 : tie.Need-difference-requires-2 Inv-loop μ-loop
 difference-requires-2 c κs = let k = c .before in let a = k .args in near-pair (a .m) (a .x .now) (a .y .now) (a .s) 0 (k .pre .front) (k .pre .inside) (omega arith)
 
--- src/trial.rt:32:5
 loop-holds : tie.Need-loop-holds Inv-loop μ-loop
 loop-holds c =
     let l = c .before .difference in
@@ -51,15 +41,12 @@ loop-holds c =
     let a = c .before .before .args in
     (omega arith, (back (l .result) (l .ok) ∙ l .ensures ∙ low-first (pad (a .x .now)) (pad (a .y .now)) (a .s), back (h .result) (h .ok) ∙ h .ensures ∙ high-first (pad (a .x .now)) (pad (a .y .now)) (a .s)))
 
--- src/trial.rt:33:9
 add-i : tie.Need-add-i Inv-loop μ-loop
 add-i c = search needs
 
--- src/trial.rt:34:54
 add-difference : tie.Need-add-difference Inv-loop μ-loop
 add-difference c = search needs
 
--- src/trial.rt:34:34
 difference-requires-3 : tie.Need-difference-requires-3 Inv-loop μ-loop
 difference-requires-3 c κs =
     let k = c .before in
@@ -67,15 +54,12 @@ difference-requires-3 c κs =
     let a = e .args in
     near-pair (a .m) (a .x .now) (a .y .now) (k .loop .i + 1) (k .loop .i + 1 + a .s) (e .pre .front) (omega arith) (omega arith)
 
--- src/trial.rt:34:9
 larger-requires : tie.Need-larger-requires Inv-loop μ-loop
 larger-requires c κs = search needs
 
--- src/trial.rt:35:51
 add-difference-2 : tie.Need-add-difference-2 Inv-loop μ-loop
 add-difference-2 c = search needs
 
--- src/trial.rt:35:37
 difference-requires-4 : tie.Need-difference-requires-4 Inv-loop μ-loop
 difference-requires-4 c κs =
     let k = c .before .before .before in
@@ -83,15 +67,12 @@ difference-requires-4 c κs =
     let a = e .args in
     near-pair (a .m) (a .x .now) (a .y .now) (k .loop .i + 1 + a .s) (k .loop .i + 1) (e .pre .front) (omega arith) (omega arith)
 
--- src/trial.rt:35:9
 smaller-requires : tie.Need-smaller-requires Inv-loop μ-loop
 smaller-requires c κs = search needs
 
--- src/trial.rt:32:5
 loop-less : tie.Need-loop-less Inv-loop μ-loop
 loop-less c = search needs
 
--- src/trial.rt:32:5
 loop-again : tie.Need-loop-again Inv-loop μ-loop
 loop-again c =
     let g = c .before .before in
@@ -109,15 +90,12 @@ loop-again c =
       ),
     )
 
--- src/trial.rt:39:21
 add-count : tie.Need-add-count Inv-loop μ-loop
 add-count c = search needs
 
--- src/trial.rt:39:16
 mul-count : tie.Need-mul-count Inv-loop μ-loop
 mul-count c = search needs
 
--- src/trial.rt:24:1
 returns : tie.Need-returns Inv-loop μ-loop
 returns c =
     let k = c .before in
