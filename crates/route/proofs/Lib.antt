@@ -1,0 +1,3 @@
+-- What the floors above cite: Places says where the columns of a route stand.
+pub mod Places
+pub mod Wires

@@ -1,0 +1,2 @@
+-- Faults.
+use Prim.Native.Nat.{ℕ}
