@@ -68,8 +68,8 @@ begun-next e out₀ out t x h g l =
 abbrev pub put : ℕ → List ℤ → List ℤ → List ℤ
 put at out ys = take at out ++ (ys ++ drop (length out - at) (drop at out))
 
--- p stands in what was out₀, and the part after it was lent, to be begun with q
-module _ (p q : List ℤ) (at k : ℕ) (out₀ out ys : List ℤ) (here : length p ≡ at) (room : at ≤ length out₀) (was : out ≡ p ++ drop at out₀) where
+-- p stands in what was out₀, and the part after it is lent, to be begun with q
+module _ (p : List ℤ) (at : ℕ) (out₀ out : List ℤ) (here : length p ≡ at) (room : at ≤ length out₀) (was : out ≡ p ++ drop at out₀) where
   pub put-same : length out ≡ length out₀
   put-same = rw was (length-append p (drop at out₀) ∙ omega (arith, length-drop at out₀))
 
@@ -79,9 +79,54 @@ module _ (p q : List ℤ) (at k : ℕ) (out₀ out ys : List ℤ) (here : length
   pub lent-length : length (take (length out - at) (drop at out)) ≡ length out₀ - at
   lent-length = rw lent (length-drop at out₀)
 
-  pub put-next : ys ≡ q ++ drop k (take (length out - at) (drop at out)) → put at out ys ≡ (p ++ q) ++ drop (at + k) out₀
-  put-next e =
+  pub put-next : (q : List ℤ) (k : ℕ) (ys : List ℤ) → ys ≡ q ++ drop k (take (length out - at) (drop at out)) → put at out ys ≡ (p ++ q) ++ drop (at + k) out₀
+  put-next q k ys e =
       let f : take at out ≡ p = rw was (take-at p (drop at out₀) at here) in
       let g : drop at out ≡ drop at out₀ = rw was (drop-at p (drop at out₀) at here) in
       let z : drop (length out - at) (drop at out) ≡ [] = rw (g, put-same) (drop-of-length-le (drop at out₀) {i = length out₀ - at} (omega (arith, length-drop at out₀))) in
       rw (z, e, lent, f, append-nil, drop-drop k at out₀, append-assoc)
+
+-- a wire of which m columns were drawn, and the rest on column c
+pub straight-on : (e : ℕ → ℤ) (c : ℤ) (m s : ℕ) (out₀ out ys : List ℤ) → m ≤ s + 1 → s < length out₀ → ((t : ℕ) → m ≤ t → t ≤ s → e t ≡ c) → out ≡ columns e m ++ drop m out₀
+    → ys ≡ columns (λ t. c) (s + 1 - m) ++ drop (s + 1 - m) (take (length out - m) (drop m out)) → put m out ys ≡ columns e (s + 1) ++ drop (s + 1) out₀
+straight-on e c m s out₀ out ys le room free was g =
+    let k = s + 1 - m in
+    let w : m + k ≡ s + 1 = omega arith in
+    let f : columns (λ t. e (m + t)) k ≡ columns (λ t. c) k = columns-same (λ t. e (m + t)) (λ t. c) k (λ t h. free (m + t) (omega arith) (omega arith)) in
+    let h : columns e (s + 1) ≡ columns e m ++ columns (λ t. c) k = ap (columns e) (sym w) ∙ columns-more e m k ∙ rw f in
+    put-next (columns e m) m out₀ out (columns-length e m) (omega arith) was (columns (λ t. c) k) k ys g ∙ rw (w, h)
+
+-- the first i of n wires stand in what was out₀, up to place `at`
+pub record Drawn (e : ℕ → ℕ → ℤ) (s n : ℕ) (out₀ : List ℤ) (i at : ℕ) (out : List ℤ) : Type 0 where
+  pub place : at ≡ i * (s + 1)
+  pub same : length out ≡ length out₀
+  pub begun : out ≡ wires e s i ++ drop at out₀
+
+module _ (e : ℕ → ℕ → ℤ) (s n : ℕ) (out₀ : List ℤ) where
+  pub drawn-none : Drawn e s n out₀ 0 0 out₀
+  unfolding wires
+  drawn-none = record { place = omega arith; same = refl; begun = refl }
+
+  pub drawn-all : (i at : ℕ) (out : List ℤ) → i ≡ n → Drawn e s n out₀ i at out → out ≡ wires e s n ++ drop (n * (s + 1)) out₀
+  drawn-all i at out h r = rw (r .place, h) at (r .begun)
+
+  module _ (i at : ℕ) (out : List ℤ) (lt : i < n) (room : n * (s + 1) ≤ length out₀) (r : Drawn e s n out₀ i at out) where
+    pub drawn-room : at + (s + 1) ≤ length out₀
+    drawn-room = omega (arith, r .place, place-in n s i s lt (omega arith))
+
+    here : length (wires e s i) ≡ at
+    here = wires-length e s i ∙ sym (r .place)
+
+    pub drawn-part : s < length (take (length out - at) (drop at out))
+    drawn-part = omega (arith, drawn-room, lent-length (wires e s i) at out₀ out here (omega (arith, drawn-room)) (r .begun))
+
+    pub drawn-next : (ys : List ℤ) → ys ≡ columns (e i) (s + 1) ++ drop (s + 1) (take (length out - at) (drop at out)) → Drawn e s n out₀ (i + 1) (at + (s + 1)) (put at out ys)
+    unfolding wires
+    drawn-next ys g =
+        let f = put-next (wires e s i) at out₀ out here (omega (arith, drawn-room)) (r .begun) (columns (e i) (s + 1)) (s + 1) ys g in
+        let l : length (wires e s i ++ columns (e i) (s + 1)) ≡ at + (s + 1) = length-append (wires e s i) (columns (e i) (s + 1)) ∙ omega (arith, here, columns-length (e i) (s + 1)) in
+        record {
+          place = rw (add-one i) (omega (arith, r .place, suc-mul i (s + 1)));
+          same = put-same (wires e s i ++ columns (e i) (s + 1)) (at + (s + 1)) out₀ (put at out ys) l drawn-room f;
+          begun = rw (add-one i) f;
+        }
