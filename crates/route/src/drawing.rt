@@ -28,6 +28,14 @@ fn left_limit(a: &[i32], k: usize, t: usize) -> i32
     a[k] + t as i32
 }
 
+// How many places the columns of n wires take.
+pub(crate) fn places(n: usize, s: usize) -> usize
+    requires { ⌜ (n ≤ maxPairs) × (s ≤ maxTracks) ⌝ }
+    ensures { λ r. ⌜ r ≡ n * (s + 1) ⌝ }
+{
+    n * (s + 1)
+}
+
 fn fewer(x: usize, y: usize) -> usize
     ensures { λ r. ⌜ r ≡ min x y ⌝ }
 {
