@@ -17,6 +17,7 @@ use mir.ValLaws.{toZ-ofZ}
 use Rattle.whole.proofs.Arith.{up, down, arithℤ, ≤-or-<}
 use Rattle.whole.proofs.Order.{untrue, lt-true, true-lt, false-lt, lt-false, true-le, false-le}
 use Rattle.jumper.specs.Rows.{pick, orElse}
+use Rattle.jumper.specs.declared.refusal.Refusal.{Refusal}
 use Rattle.jumper.specs.declared.refusal.Refusal.the-variants.{BadWire}
 use Rattle.jumper.specs.declared.rows.Checked.{Checked}
 use Rattle.jumper.specs.declared.rows.Checked.the-variants.{Accepted, Refused}
@@ -142,9 +143,13 @@ module _ (wrong : ℕ → Bool) (t n i : ℕ) where
   wire-done h = let e : n - i ≡ 0 = omega arith in rw e
 
 module _ (wrong : ℕ → ℕ → Bool) (n m t : ℕ) where
-  pub track-step : t < m → trackFault wrong n t (m - t) ≡ orElse (wireFault (wrong t) t 0 n) (trackFault wrong n (t + 1) (m - (t + 1)))
+  pub track-found : (r : Refusal) → t < m → wireFault (wrong t) t 0 n ≡ Refused r → trackFault wrong n t (m - t) ≡ Refused r
   unfolding trackFault
-  track-step h = let e : m - t ≡ suc (m - (t + 1)) = omega arith in rw (e, add-one)
+  track-found r h k = let e : m - t ≡ suc (m - (t + 1)) = omega arith in rw (e, k)
+
+  pub track-next : t < m → wireFault (wrong t) t 0 n ≡ Accepted → trackFault wrong n t (m - t) ≡ trackFault wrong n (t + 1) (m - (t + 1))
+  unfolding trackFault
+  track-next h k = let e : m - t ≡ suc (m - (t + 1)) = omega arith in rw (e, k, add-one)
 
   pub track-done : m ≤ t → trackFault wrong n t (m - t) ≡ Accepted
   unfolding trackFault

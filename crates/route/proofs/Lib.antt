@@ -2,3 +2,4 @@
 pub mod Places
 pub mod Wires
 pub mod Faults
+pub mod Legal
