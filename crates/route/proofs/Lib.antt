@@ -3,3 +3,4 @@ pub mod Places
 pub mod Wires
 pub mod Faults
 pub mod Legal
+pub mod Answers

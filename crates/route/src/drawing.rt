@@ -10,7 +10,56 @@ ghost use Rattle.jumper.specs.Limits.{maxPairs, maxTracks, AcceptedOffset};
 ghost use Rattle.jumper.specs.Rows.{AcceptedRow, AcceptedRows};
 ghost use Rattle.jumper.specs.Asked.{Asked};
 ghost use Rattle.route.specs.Table.{columns, wires};
-ghost use Rattle.route.specs.Draw.{wireDrawn, allDrawn};
+ghost use Rattle.route.specs.Draw.{wireDrawn, allDrawn, DrawWireAnswer, DrawAllAnswer};
+use fit::misfit::fit;
+use jumper::asked::check_asked;
+use jumper::refusal::Refusal;
+use jumper::rows::Checked;
+
+// Wire `wire` into s + 1 places: refusals 1 to 7, WIRE, BUFFER, NOFIT.
+pub fn draw_wire(a: &[i32], b: &[i32], s: usize, d: i32, wire: usize, out: &mut [i32]) -> Checked
+    ensures { λ r. ⌜ DrawWireAnswer (now (a .entry)) (now (b .entry)) s d wire (now (out .entry)) (now (out .exit)) r ⌝ }
+{
+    match check_asked(a, b, s, d) {
+        Checked::Refused(r) => Checked::Refused(r),
+        Checked::Accepted => {
+            if a.len() <= wire {
+                return Checked::Refused(Refusal::Wire);
+            }
+            if out.len() <= s {
+                return Checked::Refused(Refusal::Buffer);
+            }
+            match fit(a, b, s, d) {
+                Checked::Refused(r) => Checked::Refused(r),
+                Checked::Accepted => {
+                    draw_columns(a, b, s, d, wire, out);
+                    Checked::Accepted
+                }
+            }
+        }
+    }
+}
+
+// All wires, wire after wire, into n(s + 1) places: refusals 1 to 7, BUFFER, NOFIT.
+pub fn draw_all(a: &[i32], b: &[i32], s: usize, d: i32, out: &mut [i32]) -> Checked
+    ensures { λ r. ⌜ DrawAllAnswer (now (a .entry)) (now (b .entry)) s d (now (out .entry)) (now (out .exit)) r ⌝ }
+{
+    match check_asked(a, b, s, d) {
+        Checked::Refused(r) => Checked::Refused(r),
+        Checked::Accepted => {
+            if out.len() < places(a.len(), s) {
+                return Checked::Refused(Refusal::Buffer);
+            }
+            match fit(a, b, s, d) {
+                Checked::Refused(r) => Checked::Refused(r),
+                Checked::Accepted => {
+                    draw_wires(a, b, s, d, out);
+                    Checked::Accepted
+                }
+            }
+        }
+    }
+}
 
 // As far right as pad k lets a wire come that is t tracks up and t pads before it.
 fn right_limit(a: &[i32], k: usize, t: usize) -> i32
