@@ -6,8 +6,8 @@ use mathlib.Core.Logic.{_⊎_, inl, inr, ⊎-elim, _↔_}
 use Prim.Native.Nat.{ℕ, zero, suc, _+_, _*_, _≤_, _<_}
 use native.Mathlib.Omega.{arith}
 use borrow.Author.Tests.{lt-ltb, le-ltb}
-use lib.ListN.{length, take, drop}
-use lib.Seq.{take-at, drop-at}
+use lib.ListN.{length, take, drop, length-append}
+use lib.Seq.{take-at}
 use lib.IntN.{ℤ}
 use Rattle.wiring.specs.Wiring.{Point, at, On, Wire, Legal, pad, topPad, HasWiring}
 use Rattle.wiring.specs.Fit.{Rising, leanOf, Fits}
@@ -27,7 +27,7 @@ use Rattle.fit.proofs.Misfits.{wiring-exactly}
 use Rattle.route.specs.Table.{columnIn, columns, wires, LegalRoute}
 use Rattle.route.specs.Draw.{drawnOf, drawnWires, wireDrawn, allDrawn, DrawWireAnswer, DrawAllAnswer}
 use Rattle.route.specs.Check.{NoFault, FirstFault, firstFault, RouteCheck}
-use Rattle.route.proofs.Places.{columns-length, columns-at, wires-at}
+use Rattle.route.proofs.Places.{columns-length, columns-at, wires-length, wires-at, wires-part}
 use Rattle.route.proofs.Faults.{searched}
 use Rattle.route.proofs.Legal.{faultless-legal}
 
@@ -241,3 +241,31 @@ module _ (a b : List ℤ) (s : ℕ) (d : ℤ) (out : List ℤ) where
             prevents = λ z. absurd (omega arith);
             witness = λ z. absurd (omega arith);
           }
+
+-- DRAWING ALL IS DRAWING EACH: with room for both the answers are the same, and a wire's part of the table is what drawing it alone writes
+pub all-is-each : {a b : List ℤ} {s : ℕ} {d : ℤ} {out out′ own own′ : List ℤ} {i : ℕ} {r q : Checked} → DrawAllAnswer a b s d out out′ r → DrawWireAnswer a b s d i own own′ q → i < length a → length a * (s + 1) ≤ length out → s < length own
+    → (q ≡ r) × (checkedNumbers r .refusal ≡ 0 → take (s + 1) own′ ≡ take (s + 1) (drop (i * (s + 1)) out′))
+all-is-each {a} {b} {s} {d} {out} {out′} {own} {own′} {i} {r} {q} f g lt room own-room = (same, parts)
+  where
+    same : q ≡ r
+    same =
+        let h : s + 1 ≤ length own = omega arith in
+        g .answer ∙ rw (lt-ltb i (length a) lt, le-ltb (length own) (s + 1) h) (sym (f .answer ∙ rw (le-ltb (length out) (length a * (s + 1)) room)))
+
+    parts : checkedNumbers r .refusal ≡ 0 → take (s + 1) own′ ≡ take (s + 1) (drop (i * (s + 1)) out′)
+    parts z =
+        let e : r ≡ Accepted = accepted-of r z in
+        let x : out′ ≡ allDrawn a b s d out = rw e at (f .buffer) in
+        let y : own′ ≡ wireDrawn a b s d i own = rw (same ∙ e) at (g .buffer) in
+        rw (x, y)
+        (take-at (columns (drawnOf a b d i) (s + 1)) (drop (s + 1) own) (s + 1) (columns-length (drawnOf a b d i) (s + 1))
+        ∙ sym (wires-part (drawnOf a b d) s (length a) i (drop (length a * (s + 1)) out) lt))
+
+-- WHAT WE DRAW OUR CHECKER ACCEPTS
+pub drawn-accepted : {a b : List ℤ} {s : ℕ} {d : ℤ} {out out′ : List ℤ} {r q : Checked} → DrawAllAnswer a b s d out out′ r → RouteCheck a b s d out′ q → checkedNumbers r .refusal ≡ 0 → checkedNumbers q .refusal ≡ 0
+drawn-accepted {a} {b} {s} {d} {out} {out′} {r} f g z =
+    let e : r ≡ Accepted = accepted-of r z in
+    let x : out′ ≡ allDrawn a b s d out = rw e at (f .buffer) in
+    let l = length-append (wires (drawnOf a b d) s (length a)) (drop (length a * (s + 1)) out) in
+    let room : length a * (s + 1) ≤ length out′ = rw x (omega (arith, l, wires-length (drawnOf a b d) s (length a))) in
+    g .accepts .1 (f .draws .0 z .0, room, f .legal z)

@@ -58,6 +58,15 @@ wires-at e s (suc n) i t rest h l = rw (append-assoc (wires e s n) (columns (e n
         let p : i * (s + 1) + t ≡ length (wires e s n) + t = rw g (omega (arith, wires-length e s n)) in
         rw p (getD-append-add (wires e s n) (columns (e n) (s + 1) ++ rest) t (pos 0) ∙ columns-at (e n) (s + 1) t rest (omega arith) ∙ ap (λ (j : ℕ). e j t) (sym g))
 
+-- the part of the table that is wire i's
+pub wires-part : (e : ℕ → ℕ → ℤ) (s n i : ℕ) (rest : List ℤ) → i < n → take (s + 1) (drop (i * (s + 1)) (wires e s n ++ rest)) ≡ columns (e i) (s + 1)
+unfolding wires
+wires-part e s zero i rest h = absurd (omega arith)
+wires-part e s (suc n) i rest h = rw (append-assoc (wires e s n) (columns (e n) (s + 1)) rest) (⊎-elim last (wires-part e s n i (columns (e n) (s + 1) ++ rest)) (eq-or-lt-of-le (omega arith)))
+  where
+    last : i ≡ n → take (s + 1) (drop (i * (s + 1)) (wires e s n ++ (columns (e n) (s + 1) ++ rest))) ≡ columns (e i) (s + 1)
+    last g = rw (g, drop-at (wires e s n) (columns (e n) (s + 1) ++ rest) (n * (s + 1)) (wires-length e s n)) (take-at (columns (e n) (s + 1)) rest (s + 1) (columns-length (e n) (s + 1)))
+
 -- A BUFFER AS THE LOOPS LEAVE IT. The first t columns stand in what was out₀
 pub begun-next : (e : ℕ → ℤ) (out₀ out : List ℤ) (t : ℕ) (x : ℤ) → t < length out₀ → x ≡ e t → out ≡ columns e t ++ drop t out₀ → set out t x ≡ columns e (t + 1) ++ drop (t + 1) out₀
 unfolding columns
