@@ -98,7 +98,7 @@ module _ (a b : List ℤ) (s : ℕ) (d : ℤ) (table : List ℤ) where
             })
         go (inr g) =
             let p : r ≡ Refused (BadWire (g .0) (g .1)) = f ∙ g .2 in
-            let bad : LegalRoute a b s d table → ⊥ = λ l. exact .1 l (g .1) (g .0) (g .3 .track) (g .3 .wire) (g .3 .fault) in
+            let bad : LegalRoute a b s d table → ⊥ = λ l. exact .1 l (g .0) (g .3 .wire) (g .1) (g .3 .track) (g .3 .fault) in
             rw p
             (record {
               answer = sym (rw (e, le-ltb (length table) (length a * (s + 1)) h) (g .2));

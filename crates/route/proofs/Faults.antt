@@ -17,16 +17,17 @@ use mir.ValLaws.{toZ-ofZ}
 use Rattle.whole.proofs.Arith.{up, down, arithℤ, ≤-or-<}
 use Rattle.whole.proofs.Order.{untrue, lt-true, true-lt, false-lt, lt-false, true-le, false-le}
 use Rattle.jumper.specs.Rows.{pick, orElse}
+use Rattle.jumper.proofs.Accepted.{refused-not}
 use Rattle.jumper.specs.declared.refusal.Refusal.{Refusal}
 use Rattle.jumper.specs.declared.refusal.Refusal.the-variants.{BadWire}
 use Rattle.jumper.specs.declared.rows.Checked.{Checked}
 use Rattle.jumper.specs.declared.rows.Checked.the-variants.{Accepted, Refused}
-use Rattle.route.specs.Check.{highest, lowest, Fault, NoFault, FirstFault, differ, startWrong, endWrong, runTouches, faultAt, wireFault, trackFault}
+use Rattle.route.specs.Check.{highest, lowest, WrongStart, WrongEnd, Touching, Fault, NoFault, FirstFault, differ, startWrong, endWrong, runTouches, faultAt, wireFault, trackFault}
 
 -- WHAT A TEST TELLS
-record Tells (t : Bool) (P : Type 0) : Type 0 where
-  yes : t ≡ true → P
-  no : t ≡ false → P → ⊥
+pub record Tells (t : Bool) (P : Type 0) : Type 0 where
+  pub yes : t ≡ true → P
+  pub no : t ≡ false → P → ⊥
 
 either : (t : Bool) {u : Bool} {P Q : Type 0} → Tells t P → Tells u Q → Tells (cond t true u) (P ⊎ Q)
 either true p q = record { yes = λ h. inl (p .yes refl); no = λ h k. untrue (sym h) }
@@ -54,18 +55,26 @@ differ-tells x y = go (ltZ x y) refl (ltZ y x) refl
     go false e true f = record { yes = λ h k. omega (arithℤ, true-lt y x f); no = λ h k. untrue (sym h) }
     go false e false f = record { yes = λ h. untrue h; no = λ h k. k (omega (arithℤ, false-lt x y e, false-lt y x f)) }
 
+pub start-tells : (a : ℕ → ℤ) (e : ℕ → ℕ → ℤ) (t i : ℕ) → Tells (startWrong a e t i) (WrongStart a e t i)
+unfolding startWrong
+start-tells a e t i = also (eqb t 0) (equal-tells t 0) (differ-tells (e i 0) (a i))
+
+pub end-tells : (s : ℕ) (c : ℕ → ℤ) (e : ℕ → ℕ → ℤ) (t i : ℕ) → Tells (endWrong s c e t i) (WrongEnd s c e t i)
+unfolding endWrong
+end-tells s c e t i = also (eqb t s) (equal-tells t s) (differ-tells (e i s) (c i))
+
+run-tells : (n s : ℕ) (e : ℕ → ℕ → ℤ) (t i : ℕ) → Tells (runTouches n s e t i) (Touching n s e t i)
+unfolding runTouches
+run-tells n s e t i =
+    let r = also (ltb t s) (less-tells t s) (also (ltb (suc i) n) (less-tells (suc i) n) (below-tells (lowest e (suc i) t) (highest e i t))) in
+    record {
+      yes = λ h. let f = r .yes h in record { track = f .0; wire = f .1 .0; touches = f .1 .1 };
+      no = λ h f. r .no h (f .track, (f .wire, f .touches));
+    }
+
 fault-tells : (n s : ℕ) (a c : ℕ → ℤ) (e : ℕ → ℕ → ℤ) (t i : ℕ) → Tells (faultAt n s a c e t i) (Fault n s a c e t i)
-unfolding faultAt startWrong endWrong runTouches
-fault-tells n s a c e t i =
-    either _ (also _ (equal-tells t 0) (differ-tells (e i 0) (a i)))
-    (either _ (also _ (equal-tells t s) (differ-tells (e i s) (c i)))
-    (record {
-      yes = λ h. let f = run .yes h in record { track = f .0; wire = f .1 .0; touches = f .1 .1 };
-      no = λ h f. run .no h (f .track, (f .wire, f .touches));
-    }))
-  where
-    run : Tells (runTouches n s e t i) ((t < s) × ((suc i < n) × (lowest e (suc i) t ≤ℤ highest e i t)))
-    run = also _ (less-tells t s) (also _ (less-tells (suc i) n) (below-tells (lowest e (suc i) t) (highest e i t)))
+unfolding faultAt
+fault-tells n s a c e t i = either (startWrong a e t i) (start-tells a e t i) (either (endWrong s c e t i) (end-tells s c e t i) (run-tells n s e t i))
 
 -- the machine compares bits
 pub bits-differ : (x y : ℤ) → SFits w32 x → SFits w32 y → not (eqb (ofZ w32 x) (ofZ w32 y)) ≡ differ x y
@@ -215,7 +224,17 @@ module _ (n s : ℕ) (a c : ℕ → ℤ) (e : ℕ → ℕ → ℤ) where
   searched = go (track-said (faultAt n s a c e) n (s + 1) 0)
     where
       go : TrackSaid (faultAt n s a c e) n 0 (s + 1) search → ((search ≡ Accepted) × NoFault n s a c e) ⊎ ((i : ℕ) × (t : ℕ) × (search ≡ Refused (BadWire i t)) × FirstFault n s a c e i t)
-      go (inl r) = inl (r .0, λ t i l m. clean t i (r .1 t i (omega arith) (omega arith) m))
+      go (inl r) = inl (r .0, λ i m t l. clean t i (r .1 t i (omega arith) (omega arith) m))
       go (inr r) =
           let f = r .2 in
           inr (r .0, r .1, f .answer, record { wire = f .inside .0; track = omega (arith, f .inside); fault = fault-tells n s a c e (r .1) (r .0) .yes (f .here); tracks = λ u j l m. clean u j (f .tracks u j (omega arith) l m); wires = λ j l. clean (r .1) j (f .wires j l) })
+
+  -- the search finds none exactly where there is none
+  pub none-exactly : (search ≡ Accepted) ↔ NoFault n s a c e
+  none-exactly = (there, back)
+    where
+      there : search ≡ Accepted → NoFault n s a c e
+      there h = ⊎-elim (λ r. r .1) (λ r. absurd (refused-not (BadWire (r .0) (r .1)) (sym (r .2) ∙ h))) searched
+
+      back : NoFault n s a c e → search ≡ Accepted
+      back f = ⊎-elim (λ r. r .0) (λ r. absurd (f (r .0) (r .3 .wire) (r .1) (r .3 .track) (r .3 .fault))) searched

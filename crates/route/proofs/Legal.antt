@@ -16,13 +16,13 @@ use Rattle.wiring.specs.Fit.{Rising}
 use Rattle.wiring.specs.Table.{Between, LegalTable}
 use Rattle.wiring.proofs.Rule.{rising-less}
 use Rattle.wiring.proofs.Build.{wire-fills, wire-starts, wire-ends, Ordered, ordered-legal}
-use Rattle.route.specs.Check.{highest, lowest, Fault, NoFault}
+use Rattle.route.specs.Check.{highest, lowest, Fault, WireClear, NoFault}
 
 -- the checker's rule, said of what is right
-pub record InOrder (n s : ℕ) (a c : ℕ → ℤ) (e : ℕ → ℕ → ℤ) : Type 0 where
-  pub starts : (i : ℕ) → i < n → e i 0 ≡ a i
-  pub ends : (i : ℕ) → i < n → e i s ≡ c i
-  pub runs : (t i : ℕ) → t < s → suc i < n → highest e i t <ℤ lowest e (suc i) t
+record InOrder (n s : ℕ) (a c : ℕ → ℤ) (e : ℕ → ℕ → ℤ) : Type 0 where
+  starts : (i : ℕ) → i < n → e i 0 ≡ a i
+  ends : (i : ℕ) → i < n → e i s ≡ c i
+  runs : (t i : ℕ) → t < s → suc i < n → highest e i t <ℤ lowest e (suc i) t
 
 -- two columns that do not differ are the same
 same : (x y : ℤ) → ((x ≡ y → ⊥) → ⊥) → x ≡ y
@@ -52,20 +52,20 @@ order p p′ q q′ lt none = ⊎-elim (λ h. absurd (clash h)) (λ h. h) (≤-o
         (inside x q q′ (m .second) (⊎-elim (λ g. omega (arithℤ, hq .first)) (λ g. omega (arithℤ, hq .first, lq .first)) (m .one)))
 
 module _ (n s : ℕ) (a c : ℕ → ℤ) (e : ℕ → ℕ → ℤ) where
-  pub faultless : NoFault n s a c e ↔ InOrder n s a c e
+  faultless : NoFault n s a c e ↔ InOrder n s a c e
   faultless = (
     (λ f. record {
-      starts = λ i h. same (e i 0) (a i) (λ k. f 0 i (omega arith) h (inl (refl, k)));
-      ends = λ i h. same (e i s) (c i) (λ k. f s i (omega arith) h (inr (inl (refl, k))));
-      runs = λ t i h k. ⊎-elim (λ l. absurd (f t i (omega arith) (omega arith) (inr (inr (record { track = h; wire = k; touches = l }))))) (λ l. l) (≤-or-< (lowest e (suc i) t) (highest e i t));
+      starts = λ i h. same (e i 0) (a i) (λ k. f i h 0 (omega arith) (inl (refl, k)));
+      ends = λ i h. same (e i s) (c i) (λ k. f i h s (omega arith) (inr (inl (refl, k))));
+      runs = λ t i h k. ⊎-elim (λ l. absurd (f i (omega arith) t (omega arith) (inr (inr (record { track = h; wire = k; touches = l }))))) (λ l. l) (≤-or-< (lowest e (suc i) t) (highest e i t));
     }),
-    (λ o t i h k f. none o t i h k f),
+    (λ o i h. clear i h o),
   )
     where
-      none : InOrder n s a c e → (t i : ℕ) → t ≤ s → i < n → Fault n s a c e t i → ⊥
-      none o t i h k (inl f) = f .1 (o .starts i k)
-      none o t i h k (inr (inl f)) = f .1 (o .ends i k)
-      none o t i h k (inr (inr f)) = omega (arithℤ, f .touches, o .runs t i (f .track) (f .wire))
+      clear : (i : ℕ) → i < n → InOrder n s a c e → WireClear n s a c e i
+      clear i h o t l (inl f) = f .1 (o .starts i h)
+      clear i h o t l (inr (inl f)) = f .1 (o .ends i h)
+      clear i h o t l (inr (inr f)) = omega (arithℤ, f .touches, o .runs t i (f .track) (f .wire))
 
   -- the order of neighbours is the order of all
   chain : InOrder n s a c e → (t k i j : ℕ) → t < s → i + suc k ≡ j → j < n → highest e i t <ℤ lowest e j t
@@ -133,7 +133,7 @@ module _ (n s : ℕ) (a c : ℕ → ℤ) (e : ℕ → ℕ → ℤ) where
           runs = λ t i ts l. order (e i t) (e i (suc t)) (e (suc i) t) (e (suc i) (suc t)) (entered t (omega arith) i l) (alone t i (suc i) ts (omega arith) l);
         }
 
-  pub in-order-legal : Rising n a → Rising n c → InOrder n s a c e ↔ LegalTable n s a c e
+  in-order-legal : Rising n a → Rising n c → InOrder n s a c e ↔ LegalTable n s a c e
   in-order-legal ra rc = ((λ o. ordered-legal (in-order-ordered rc o)), legal-in-order ra)
 
   pub faultless-legal : Rising n a → Rising n c → NoFault n s a c e ↔ LegalTable n s a c e

@@ -3,4 +3,5 @@ pub mod Places
 pub mod Wires
 pub mod Faults
 pub mod Legal
+mod Quick
 pub mod Answers

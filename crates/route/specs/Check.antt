@@ -11,7 +11,7 @@ use Prim.Native.Nat.{ℕ, zero, suc, _+_, _*_, _≤_, _<_}
 use lib.Dec.{eqb, ltb}
 use lib.ListN.{length}
 use lib.IntN.{ℤ}
-use lib.Signed.{_≤ℤ_, ltZ, leZ}
+use lib.Signed.{_≤ℤ_, _<ℤ_, ltZ, leZ}
 use Rattle.whole.specs.Pick.{largerOf, smallerOf}
 use Rattle.wiring.specs.Wiring.{pad, topPad}
 use Rattle.jumper.specs.Rows.{checkedNumbers, pick, orElse}
@@ -46,8 +46,16 @@ pub record Touching (n s : ℕ) (e : ℕ → ℕ → ℤ) (t i : ℕ) : Type 0 w
 abbrev pub Fault : (n s : ℕ) (a c : ℕ → ℤ) (e : ℕ → ℕ → ℤ) (t i : ℕ) → Type 0
 Fault n s a c e t i = WrongStart a e t i ⊎ WrongEnd s c e t i ⊎ Touching n s e t i
 
+-- no fault at wire i on any track, and none at all
+abbrev pub WireClear : (n s : ℕ) (a c : ℕ → ℤ) (e : ℕ → ℕ → ℤ) (i : ℕ) → Type 0
+WireClear n s a c e i = (t : ℕ) → t ≤ s → Fault n s a c e t i → ⊥
+
 abbrev pub NoFault : (n s : ℕ) (a c : ℕ → ℤ) (e : ℕ → ℕ → ℤ) → Type 0
-NoFault n s a c e = (t i : ℕ) → t ≤ s → i < n → Fault n s a c e t i → ⊥
+NoFault n s a c e = (i : ℕ) → i < n → WireClear n s a c e i
+
+-- two neighbours' runs are in order below track s: each wire's columns are p and q
+abbrev pub RunsApart : (p q : ℕ → ℤ) (s : ℕ) → Type 0
+RunsApart p q s = (t : ℕ) → t < s → largerOf (p t) (p (suc t)) <ℤ smallerOf (q t) (q (suc t))
 
 -- "the first fault by track, then wire": none on an earlier track, and none at an earlier wire of this track
 pub record FirstFault (n s : ℕ) (a c : ℕ → ℤ) (e : ℕ → ℕ → ℤ) (i t : ℕ) : Type 0 where
