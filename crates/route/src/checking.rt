@@ -68,10 +68,10 @@ fn end_wrong(a: &[i32], b: &[i32], s: usize, d: i32, table: &[i32], t: usize, i:
 }
 
 fn run_touches(n: usize, s: usize, table: &[i32], t: usize, i: usize) -> bool
-    requires { ⌜ (s ≤ maxTracks) × (n * (s + 1) ≤ length (now table)) × (i < n) ⌝ }
+    requires { ⌜ (s ≤ maxTracks) × (n * (s + 1) ≤ length (now table)) × (i < n) × (t ≤ s) ⌝ }
     ensures { λ r. ⌜ r ≡ runTouches n s (columnIn (now (table .entry)) s) t i ⌝ }
 {
-    if t < s {
+    if t + 1 <= s {
         if i + 1 < n {
             return lowest_of(table, s, i + 1, t) <= highest_of(table, s, i, t);
         }
@@ -80,7 +80,7 @@ fn run_touches(n: usize, s: usize, table: &[i32], t: usize, i: usize) -> bool
 }
 
 fn fault_at(a: &[i32], b: &[i32], s: usize, d: i32, table: &[i32], t: usize, i: usize) -> bool
-    requires { ⌜ Asked (now a) (now b) s d × (length (now a) * (s + 1) ≤ length (now table)) × (i < length (now a)) ⌝ }
+    requires { ⌜ Asked (now a) (now b) s d × (length (now a) * (s + 1) ≤ length (now table)) × (i < length (now a)) × (t ≤ s) ⌝ }
     ensures { λ r. ⌜ r ≡ faultOf (now (a .entry)) (now (b .entry)) s d (now (table .entry)) t i ⌝ }
 {
     if start_wrong(a, s, table, t, i) {
@@ -94,7 +94,7 @@ fn fault_at(a: &[i32], b: &[i32], s: usize, d: i32, table: &[i32], t: usize, i: 
 
 // The first wire with a fault on track t.
 fn wire_fault(a: &[i32], b: &[i32], s: usize, d: i32, table: &[i32], t: usize) -> Checked
-    requires { ⌜ Asked (now a) (now b) s d × (length (now a) * (s + 1) ≤ length (now table)) ⌝ }
+    requires { ⌜ Asked (now a) (now b) s d × (length (now a) * (s + 1) ≤ length (now table)) × (t ≤ s) ⌝ }
     ensures { λ r. ⌜ r ≡ wireFault (faultOf (now (a .entry)) (now (b .entry)) s d (now (table .entry)) t) t 0 (length (now (a .entry))) ⌝ }
 {
     let mut i: usize = 0;
@@ -170,8 +170,9 @@ fn no_fault(a: &[i32], b: &[i32], s: usize, d: i32, table: &[i32]) -> bool
     requires { ⌜ Asked (now a) (now b) s d × (length (now a) * (s + 1) ≤ length (now table)) ⌝ }
     ensures { λ r. ⌜ (r ≡ true) ↔ NoFault (length (now (a .entry))) s (pad (now (a .entry))) (topPad (now (b .entry)) d) (columnIn (now (table .entry)) s) ⌝ }
 {
+    let last = a.len() - 1;
     let mut i: usize = 0;
-    while i < a.len() {
+    while i <= last {
         if wire_clear(a, b, s, d, table, i) {
             i += 1;
         } else {

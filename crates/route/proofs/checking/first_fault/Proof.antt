@@ -25,7 +25,7 @@ loop-holds c = (omega arith, rw sub-zero)
 wire-fault-requires : tie.Need-wire-fault-requires Inv-loop μ-loop
 wire-fault-requires c κs =
     let s = c .before .before in
-    (rw (toZ-ofZ w32 (s .args .d) (s .fits .d)) (s .pre .0), s .pre .1)
+    (rw (toZ-ofZ w32 (s .args .d) (s .fits .d)) (s .pre .0), s .pre .1, c .loop-test .taken)
 
 enum-known-r : tie.Need-enum-known-r Inv-loop μ-loop
 enum-known-r c = search needs

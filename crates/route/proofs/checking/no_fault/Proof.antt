@@ -14,10 +14,13 @@ use Rattle.route.proofs.checking.no_fault.Statement.{statement}
 use Rattle.route.proofs.checking.no_fault.Tie as tie
 
 abbrev Inv-loop : tie.InvT-loop
-Inv-loop a b s d table i₀ i = (i ≤ length a) × ClearTo (length a) s (pad a) (topPad b (toZ w32 d)) (columnIn table s) i
+Inv-loop a b s d table last i₀ i = (i ≤ length a) × ClearTo (length a) s (pad a) (topPad b (toZ w32 d)) (columnIn table s) i
 
 abbrev μ-loop : tie.MeasureT-loop
-μ-loop a b s d table i₀ i = length a - i
+μ-loop a b s d table last i₀ i = length a - i
+
+sub-last : tie.Need-sub-last Inv-loop μ-loop
+sub-last c = omega (arith, c .pre .0 .rows .some)
 
 loop-holds : tie.Need-loop-holds Inv-loop μ-loop
 loop-holds c = (omega arith, λ j h. absurd (omega arith))
@@ -25,33 +28,33 @@ loop-holds c = (omega arith, λ j h. absurd (omega arith))
 wire-clear-requires : tie.Need-wire-clear-requires Inv-loop μ-loop
 wire-clear-requires c κs =
     let s = c .before .before in
-    (rw (toZ-ofZ w32 (s .args .d) (s .fits .d)) (s .pre .0), s .pre .1, c .loop-test .taken)
+    (rw (toZ-ofZ w32 (s .args .d) (s .fits .d)) (s .pre .0), s .pre .1, omega (arith, s .pre .0 .rows .some))
 
 add-i : tie.Need-add-i Inv-loop μ-loop
 add-i c = search needs
 
 loop-less : tie.Need-loop-less Inv-loop μ-loop
-loop-less c = search needs
+loop-less c = omega (arith, c .before .before .before .before .pre .0 .rows .some)
 
 loop-again : tie.Need-loop-again Inv-loop μ-loop
 loop-again c =
     let w = c .before in
     let k = w .before .before in
     let s = k .before in
-    (omega arith, clear-next (length (s .args .a .now)) (s .args .s) (pad (s .args .a .now)) (topPad (s .args .b .now) _) (columnIn (s .args .table .now) (s .args .s)) (k .loop .i) (k .loop .inv .1) (w .wire-clear .ensures .0 (c .if1 .taken)))
+    (omega (arith, s .pre .0 .rows .some), clear-next (length (s .args .a .now)) (s .args .s) (pad (s .args .a .now)) (topPad (s .args .b .now) _) (columnIn (s .args .table .now) (s .args .s)) (k .loop .i) (k .loop .inv .1) (w .wire-clear .ensures .0 (c .if1 .taken)))
 
 returns : tie.Need-returns Inv-loop μ-loop
 returns c =
     let w = c .before in
     let k = w .before .before in
     let s = k .before in
-    rw (toZ-ofZ w32 (s .args .d) (s .fits .d)) at (not-clear (length (s .args .a .now)) (s .args .s) (pad (s .args .a .now)) (topPad (s .args .b .now) _) (columnIn (s .args .table .now) (s .args .s)) (k .loop .i) (w .wire-clear .result) (w .before .loop-test .taken) (w .wire-clear .ensures) (c .if1 .left))
+    rw (toZ-ofZ w32 (s .args .d) (s .fits .d)) at (not-clear (length (s .args .a .now)) (s .args .s) (pad (s .args .a .now)) (topPad (s .args .b .now) _) (columnIn (s .args .table .now) (s .args .s)) (k .loop .i) (w .wire-clear .result) (omega (arith, s .pre .0 .rows .some)) (w .wire-clear .ensures) (c .if1 .left))
 
 returns-2 : tie.Need-returns-2 Inv-loop μ-loop
 returns-2 c =
     let k = c .before in
     let s = k .before in
-    rw (toZ-ofZ w32 (s .args .d) (s .fits .d)) at (clear-all (length (s .args .a .now)) (s .args .s) (pad (s .args .a .now)) (topPad (s .args .b .now) _) (columnIn (s .args .table .now) (s .args .s)) (k .loop .i) (omega arith) (k .loop .inv .1))
+    rw (toZ-ofZ w32 (s .args .d) (s .fits .d)) at (clear-all (length (s .args .a .now)) (s .args .s) (pad (s .args .a .now)) (topPad (s .args .b .now) _) (columnIn (s .args .table .now) (s .args .s)) (k .loop .i) (omega (arith, s .pre .0 .rows .some)) (k .loop .inv .1))
 
 pub no-fault-spec : {M : Type 1} → statement M
 no-fault-spec =
@@ -59,6 +62,7 @@ no-fault-spec =
     (tie.spec
     Inv-loop
     μ-loop
+    sub-last
     loop-holds
     wire-clear-requires
     add-i

@@ -11,6 +11,9 @@ use Rattle.route.proofs.Faults.{touches-here, touches-last, touches-top
 use Rattle.route.proofs.checking.run_touches.Statement.{statement}
 use Rattle.route.proofs.checking.run_touches.Tie as tie
 
+add-if1 : tie.Need-add-if1
+add-if1 c = search needs
+
 add-if2 : tie.Need-add-if2
 add-if2 c = search needs
 
@@ -36,18 +39,19 @@ returns c =
     let s = c .before .before .before .before .args in
     let ex = toZ-ofZ w32 (x .result) (sfits-of (x .ok)) ∙ x .ensures in
     let ey = toZ-ofZ w32 (y .result) (sfits-of (y .ok)) ∙ y .ensures in
-    rw (ex, ey) (sym (touches-here (s .n) (s .s) (pad (s .table .now)) (pad (s .table .now)) (columnIn (s .table .now) (s .s)) (s .t) (s .i) (c .before .before .before .if1 .taken) (c .before .before .if2 .taken)))
+    rw (ex, ey) (sym (touches-here (s .n) (s .s) (pad (s .table .now)) (pad (s .table .now)) (columnIn (s .table .now) (s .s)) (s .t) (s .i) (omega arith) (c .before .before .if2 .taken)))
 
 returns-2 : tie.Need-returns-2
 returns-2 c = let s = c .before .before .args in sym (touches-last (s .n) (s .s) (pad (s .table .now)) (pad (s .table .now)) (columnIn (s .table .now) (s .s)) (s .t) (s .i) (c .if2 .left))
 
 returns-3 : tie.Need-returns-3
-returns-3 c = let s = c .before .args in sym (touches-top (s .n) (s .s) (pad (s .table .now)) (pad (s .table .now)) (columnIn (s .table .now) (s .s)) (s .t) (s .i) (c .if1 .left))
+returns-3 c = let s = c .before .args in sym (touches-top (s .n) (s .s) (pad (s .table .now)) (pad (s .table .now)) (columnIn (s .table .now) (s .s)) (s .t) (s .i) (omega arith))
 
 pub run-touches-spec : {M : Type 1} → statement M
 run-touches-spec =
     tie.close
     (tie.spec
+    add-if1
     add-if2
     add-lowest-of
     lowest-of-requires

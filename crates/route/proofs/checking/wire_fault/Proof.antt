@@ -26,7 +26,7 @@ loop-holds c = (omega arith, rw sub-zero)
 fault-at-requires : tie.Need-fault-at-requires Inv-loop μ-loop
 fault-at-requires c κs =
     let s = c .before .before in
-    (rw (toZ-ofZ w32 (s .args .d) (s .fits .d)) (s .pre .0), s .pre .1, c .loop-test .taken)
+    (rw (toZ-ofZ w32 (s .args .d) (s .fits .d)) (s .pre .0), s .pre .1, c .loop-test .taken, s .pre .2)
 
 returns : tie.Need-returns Inv-loop μ-loop
 returns c =
