@@ -4,7 +4,7 @@ ghost use Prim.Native.Nat.{_≤_};
 ghost use lib.ListN.{length};
 ghost use Rattle.wiring.specs.Wiring.{pad};
 ghost use Rattle.jumper.specs.Span.{rangeOf};
-ghost use Rattle.best.specs.Best.{BestAnswer};
+ghost use Rattle.best.specs.Best.{bestNumbers, BestAnswer};
 ghost use Rattle.best.specs.Work.{Plannable, IsPlanned, Room, Keeps};
 use crate::climb::climb;
 use crate::level::Level;
@@ -12,6 +12,7 @@ use crate::level::count_levels;
 use crate::rows::lower;
 use crate::trial::try_at;
 use jumper::range::OffsetRange;
+use jumper::refusal::Numbers;
 use jumper::refusal::Refusal;
 use jumper::rows::Checked;
 use jumper::rows::check_rows;
@@ -27,6 +28,30 @@ pub struct Planned {
 pub enum Best {
     Found(Planned),
     Refused(Refusal),
+}
+
+impl Best {
+    pub fn numbers(self) -> Numbers
+        ensures { λ r. ⌜ r ≡ bestNumbers self ⌝ }
+    {
+        match self {
+            Best::Found(p) => {
+                let range = p.range;
+                Numbers {
+                    refusal: 0,
+                    place: 0,
+                    second: 0,
+                    separation: p.separation,
+                    lowest: range.low,
+                    highest: range.high,
+                    pair: 0,
+                    side: 0,
+                    count: p.count,
+                }
+            }
+            Best::Refused(r) => r.numbers(),
+        }
+    }
 }
 
 // The least separation at which a legal wiring exists at any offset: refusals 1 to 5, then BUFFER. The ladder is written in front of the buffer:
