@@ -171,10 +171,11 @@ fn draw_wires(a: &[i32], b: &[i32], s: usize, d: i32, out: &mut [i32])
     requires { ⌜ Asked (now a) (now b) s d × (length (now a) * (s + 1) ≤ length (now out)) ⌝ }
     ensures { λ r. ⌜ now (out .exit) ≡ allDrawn (now (a .entry)) (now (b .entry)) s d (now (out .entry)) ⌝ }
 {
+    let n = a.len();
     let w = s + 1;
     let mut at: usize = 0;
     let mut i: usize = 0;
-    while i < a.len() {
+    while i < n {
         draw_columns(a, b, s, d, i, &mut out[at..]);
         at += w;
         i += 1;

@@ -16,10 +16,10 @@ use Rattle.route.proofs.drawing.draw_wires.Lts as lts
 use Rattle.route.proofs.drawing.draw_columns.Reads as draw-columns-reads
 
 abbrev Inv-loop : tie.InvT-loop
-Inv-loop a b s d out₀ w at₀ i₀ out at i = (i ≤ length a) × Drawn (drawnOf a b (toZ w32 d)) s (length a) out₀ i at out
+Inv-loop a b s d out₀ n w at₀ i₀ out at i = (i ≤ length a) × Drawn (drawnOf a b (toZ w32 d)) s (length a) out₀ i at out
 
 abbrev μ-loop : tie.MeasureT-loop
-μ-loop a b s d out₀ w at₀ i₀ out at i = length a - i
+μ-loop a b s d out₀ n w at₀ i₀ out at i = length a - i
 
 add-w : tie.Need-add-w Inv-loop μ-loop
 add-w c = search needs
