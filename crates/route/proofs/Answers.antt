@@ -1,28 +1,27 @@
 -- WHAT THE CALLS PROMISE, from what their parts find; and the laws that join them: drawing all is drawing each, and what is drawn is accepted.
 -- Sections: the same wires; the checker; one wire; all wires; the laws that join them.
-use mathlib.Core.Path.{_≡_, refl, sym, ap, _∙_}
-use mathlib.Core.List.{List, [], _∷_, _++_}
-use mathlib.Core.Logic.{_⊎_, inl, inr, ⊎-elim, _↔_}
+use mathlib.Core.Path.{_≡_, refl, sym, _∙_}
+use mathlib.Core.List.{List}
+use mathlib.Core.Logic.{_⊎_, inl, inr, _↔_}
 use Prim.Native.Nat.{ℕ, zero, suc, _+_, _*_, _≤_, _<_}
 use native.Mathlib.Omega.{arith}
 use borrow.Author.Tests.{lt-ltb, le-ltb}
 use lib.ListN.{length, take, drop, length-append}
 use lib.Seq.{take-at}
 use lib.IntN.{ℤ}
-use Rattle.wiring.specs.Wiring.{Point, at, On, Wire, Legal, pad, topPad, HasWiring}
-use Rattle.wiring.specs.Fit.{Rising, leanOf, Fits}
+use Rattle.wiring.specs.Wiring.{at, Legal, pad, topPad, HasWiring}
+use Rattle.wiring.specs.Fit.{Rising}
 use Rattle.wiring.specs.Table.{climb, wireOf, LegalTable}
 use Rattle.wiring.proofs.Theorem.{shifted-rising, drawing-legal}
-use Rattle.jumper.specs.Refusals.{refusalNumbers}
-use Rattle.jumper.specs.Rows.{AcceptedRows, checkedNumbers, orElse}
+use Rattle.jumper.specs.Rows.{AcceptedRows, checkedNumbers}
 use Rattle.jumper.specs.Asked.{checkAsked, Asked}
 use Rattle.jumper.specs.declared.refusal.Refusal.{Refusal}
 use Rattle.jumper.specs.declared.refusal.Refusal.the-variants.{Wire as NoWire, Buffer, BadWire}
 use Rattle.jumper.specs.declared.rows.Checked.{Checked}
 use Rattle.jumper.specs.declared.rows.Checked.the-variants.{Accepted, Refused}
-use Rattle.jumper.proofs.Accepted.{numbered, refused-not, accepted-of, number-of}
+use Rattle.jumper.proofs.Accepted.{numbered, refused-not, accepted-of}
 use Rattle.jumper.proofs.Checks.{accepted-asked, asked-accepted, early-asked}
-use Rattle.fit.specs.Misfit.{misfitOf, refusing, FitAnswer}
+use Rattle.fit.specs.Misfit.{FitAnswer}
 use Rattle.fit.proofs.Misfits.{wiring-exactly}
 use Rattle.route.specs.Table.{columnIn, columns, wires, LegalRoute}
 use Rattle.route.specs.Draw.{drawnOf, drawnWires, wireDrawn, allDrawn, DrawWireAnswer, DrawAllAnswer}

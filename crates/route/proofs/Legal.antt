@@ -4,19 +4,18 @@ use mathlib.Core.Path.{_≡_, refl, ap}
 use mathlib.Core.Logic.{_⊎_, inl, inr, ⊎-elim, _↔_}
 use Prim.Native.Nat.{ℕ, zero, suc, _+_, _-_, _≤_, _<_}
 use native.Mathlib.Decide.{decLt}
-use native.Mathlib.Numerals.{add-one}
 use native.Mathlib.Omega.{arith}
 use lib.IntN.{ℤ}
 use lib.Signed.{_≤ℤ_, _<ℤ_}
 use Rattle.whole.specs.Pick.{largerOf, smallerOf}
 use Rattle.whole.proofs.Arith.{up, down, arithℤ, ≤-or-<}
 use Rattle.whole.proofs.Order.{larger-law, smaller-law, larger-left, larger-right, smaller-left, smaller-right}
-use Rattle.wiring.specs.Wiring.{Point, at}
+use Rattle.wiring.specs.Wiring.{at}
 use Rattle.wiring.specs.Fit.{Rising}
 use Rattle.wiring.specs.Table.{Between, LegalTable}
 use Rattle.wiring.proofs.Rule.{rising-less}
 use Rattle.wiring.proofs.Build.{wire-fills, wire-starts, wire-ends, Ordered, ordered-legal}
-use Rattle.route.specs.Check.{highest, lowest, Fault, WireClear, NoFault}
+use Rattle.route.specs.Check.{highest, lowest, WireClear, NoFault}
 
 -- the checker's rule, said of what is right
 record InOrder (n s : ℕ) (a c : ℕ → ℤ) (e : ℕ → ℕ → ℤ) : Type 0 where

@@ -1,6 +1,7 @@
--- What the floors above cite: Places says where the columns of a route stand.
+-- What the floors above cite: Places says where the columns of a route stand, Legal that no fault is legality, Faults what the search finds, and Answers
+-- what the calls promise, with the laws that join them. Wires and Quick are the way there.
 pub mod Places
-pub mod Wires
+mod Wires
 pub mod Faults
 pub mod Legal
 mod Quick

@@ -7,8 +7,8 @@ use Prim.Native.Nat.{ℕ, zero, suc, _+_, _-_, _*_, _≤_, _<_}
 use native.Mathlib.Nat.{suc-mul, mul-le-mul-right, eq-or-lt-of-le, add-suc, add-zero}
 use native.Mathlib.Numerals.{add-one}
 use native.Mathlib.Omega.{arith}
-use lib.ListN.{length, getD, take, drop, set, length-append, length-drop, List·getD-append, drop-of-length-le}
-use lib.Seq.{drop-cons, drop-drop, take-all, take-at, drop-at, set-at, getD-append-add, getD-drop}
+use lib.ListN.{length, getD, take, drop, set, length-append, length-drop, drop-of-length-le}
+use lib.Seq.{drop-cons, drop-drop, take-all, take-at, drop-at, set-at, getD-append-add}
 use lib.IntN.{ℤ, pos}
 use Rattle.route.specs.Table.{columnIn, columns, wires}
 

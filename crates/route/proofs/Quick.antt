@@ -1,9 +1,9 @@
 -- The pass over a table as it lies in memory: four comparisons a track, wire by wire.
-use mathlib.Core.Path.{_≡_, refl, sym, ap, _∙_}
+use mathlib.Core.Path.{_≡_, refl, sym, _∙_}
 use mathlib.Core.Bool.{Bool, true, false, cond}
 use mathlib.Core.List.{List}
 use mathlib.Core.Logic.{inl, inr, ⊎-elim, _↔_}
-use Prim.Native.Nat.{ℕ, zero, suc, _+_, _-_, _*_, _≤_, _<_}
+use Prim.Native.Nat.{ℕ, suc, _+_, _-_, _*_, _≤_, _<_}
 use native.Mathlib.Nat.{eq-or-lt-of-le, suc-mul}
 use native.Mathlib.Numerals.{add-one}
 use native.Mathlib.Omega.{arith}
@@ -12,7 +12,7 @@ use lib.Dec.{eqb}
 use lib.ListN.{length, take, drop, length-drop}
 use lib.Seq.{take-all, getD-drop}
 use lib.IntN.{ℤ, pos}
-use lib.Signed.{_≤ℤ_, _<ℤ_, ltZ}
+use lib.Signed.{_<ℤ_, ltZ}
 use Rattle.whole.specs.Pick.{largerOf, smallerOf}
 use Rattle.whole.proofs.Arith.{up, down, arithℤ, ≤-or-<}
 use Rattle.whole.proofs.Order.{untrue, true-lt, false-lt, larger-law, smaller-law}

@@ -1,5 +1,5 @@
 -- 01's columns of one wire: where a pad holds it and where none does.
-use mathlib.Core.Path.{_≡_, refl, sym, ap, _∙_}
+use mathlib.Core.Path.{_≡_, sym, ap, _∙_}
 use mathlib.Core.Bool.{true, false}
 use mathlib.Core.List.{List, _++_}
 use Prim.Native.Nat.{ℕ, zero, suc, _+_, _-_, _≤_, _<_}
@@ -7,7 +7,7 @@ use native.Mathlib.Omega.{arith}
 use borrow.Author.Tests.{lt-ltb, le-ltb}
 use lib.ListN.{length, drop}
 use lib.IntN.{ℤ, pos, _+ℤ_, _-ℤ_}
-use lib.Signed.{_≤ℤ_, _<ℤ_, ltZ}
+use lib.Signed.{_≤ℤ_, ltZ}
 use Rattle.whole.specs.Pick.{largerOf, smallerOf}
 use Rattle.whole.proofs.Arith.{up, down, arithℤ, sum, dif}
 use Rattle.whole.proofs.Order.{true-lt, false-lt, larger-right, smaller-right}

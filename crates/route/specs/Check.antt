@@ -53,7 +53,7 @@ WireClear n s a c e i = (t : ℕ) → t ≤ s → Fault n s a c e t i → ⊥
 abbrev pub NoFault : (n s : ℕ) (a c : ℕ → ℤ) (e : ℕ → ℕ → ℤ) → Type 0
 NoFault n s a c e = (i : ℕ) → i < n → WireClear n s a c e i
 
--- two neighbours' runs are in order below track s: each wire's columns are p and q
+-- the runs of two wires, on columns p and q, are in order on every track below s
 abbrev pub RunsApart : (p q : ℕ → ℤ) (s : ℕ) → Type 0
 RunsApart p q s = (t : ℕ) → t < s → largerOf (p t) (p (suc t)) <ℤ smallerOf (q t) (q (suc t))
 
@@ -97,7 +97,7 @@ faultOf a b s d table = faultAt (length a) s (pad a) (topPad b d) (columnIn tabl
 abbrev pub firstFault : (a b : List ℤ) (s : ℕ) (d : ℤ) (table : List ℤ) → Checked
 firstFault a b s d table = trackFault (faultOf a b s d table) (length a) 0 (s + 1)
 
--- "refusals 1 to 7, BUFFER, then BADWIRE"
+-- refusals 1 to 7, BUFFER, then BADWIRE
 abbrev pub routeChecked : (a b : List ℤ) (s : ℕ) (d : ℤ) (table : List ℤ) → Checked
 routeChecked a b s d table = orElse (checkAsked a b s d) (orElse (noRoom (length a * (s + 1)) (length table)) (firstFault a b s d table))
 

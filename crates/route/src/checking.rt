@@ -17,6 +17,24 @@ use jumper::asked::check_asked;
 use jumper::refusal::Refusal;
 use jumper::rows::Checked;
 
+// Refusals 1 to 7, BUFFER, then BADWIRE. Any columns are taken; NOFIT isn't tested.
+pub fn check_route(a: &[i32], b: &[i32], s: usize, d: i32, table: &[i32]) -> Checked
+    ensures { λ r. ⌜ RouteCheck (now (a .entry)) (now (b .entry)) s d (now (table .entry)) r ⌝ }
+{
+    match check_asked(a, b, s, d) {
+        Checked::Refused(r) => Checked::Refused(r),
+        Checked::Accepted => {
+            if table.len() < places(a.len(), s) {
+                return Checked::Refused(Refusal::Buffer);
+            }
+            if no_fault(a, b, s, d, table) {
+                return Checked::Accepted;
+            }
+            first_fault(a, b, s, d, table)
+        }
+    }
+}
+
 fn differs(x: i32, y: i32) -> bool
     ensures { λ r. ⌜ r ≡ differ x y ⌝ }
 {
@@ -107,6 +125,21 @@ fn wire_fault(a: &[i32], b: &[i32], s: usize, d: i32, table: &[i32], t: usize) -
     Checked::Accepted
 }
 
+// The first fault by track, then wire.
+fn first_fault(a: &[i32], b: &[i32], s: usize, d: i32, table: &[i32]) -> Checked
+    requires { ⌜ Asked (now a) (now b) s d × (length (now a) * (s + 1) ≤ length (now table)) ⌝ }
+    ensures { λ r. ⌜ r ≡ firstFault (now (a .entry)) (now (b .entry)) s d (now (table .entry)) ⌝ }
+{
+    let mut t: usize = 0;
+    while t <= s {
+        match wire_fault(a, b, s, d, table, t) {
+            Checked::Refused(r) => return Checked::Refused(r),
+            Checked::Accepted => t += 1,
+        }
+    }
+    Checked::Accepted
+}
+
 // 0 where column x is to the left of column y, else 1.
 fn not_left(x: i32, y: i32) -> u32
     ensures { λ r. ⌜ (r ≤ 1) × (r ≡ cond (ltZ x y) 0 1) ⌝ }
@@ -180,36 +213,4 @@ fn no_fault(a: &[i32], b: &[i32], s: usize, d: i32, table: &[i32]) -> bool
         }
     }
     true
-}
-
-fn first_fault(a: &[i32], b: &[i32], s: usize, d: i32, table: &[i32]) -> Checked
-    requires { ⌜ Asked (now a) (now b) s d × (length (now a) * (s + 1) ≤ length (now table)) ⌝ }
-    ensures { λ r. ⌜ r ≡ firstFault (now (a .entry)) (now (b .entry)) s d (now (table .entry)) ⌝ }
-{
-    let mut t: usize = 0;
-    while t <= s {
-        match wire_fault(a, b, s, d, table, t) {
-            Checked::Refused(r) => return Checked::Refused(r),
-            Checked::Accepted => t += 1,
-        }
-    }
-    Checked::Accepted
-}
-
-// Refusals 1 to 7, BUFFER, then BADWIRE. Any columns are taken; NOFIT isn't tested.
-pub fn check_route(a: &[i32], b: &[i32], s: usize, d: i32, table: &[i32]) -> Checked
-    ensures { λ r. ⌜ RouteCheck (now (a .entry)) (now (b .entry)) s d (now (table .entry)) r ⌝ }
-{
-    match check_asked(a, b, s, d) {
-        Checked::Refused(r) => Checked::Refused(r),
-        Checked::Accepted => {
-            if table.len() < places(a.len(), s) {
-                return Checked::Refused(Refusal::Buffer);
-            }
-            if no_fault(a, b, s, d, table) {
-                return Checked::Accepted;
-            }
-            first_fault(a, b, s, d, table)
-        }
-    }
 }

@@ -7,9 +7,9 @@ ghost use lib.IntN.{pos, _+ℤ_, _-ℤ_};
 ghost use Rattle.wiring.specs.Wiring.{pad, topPad};
 ghost use Rattle.wiring.specs.Drawing.{rightward, leftward};
 ghost use Rattle.jumper.specs.Limits.{maxPairs, maxTracks, AcceptedOffset};
-ghost use Rattle.jumper.specs.Rows.{AcceptedRow, AcceptedRows};
+ghost use Rattle.jumper.specs.Rows.{AcceptedRow};
 ghost use Rattle.jumper.specs.Asked.{Asked};
-ghost use Rattle.route.specs.Table.{columns, wires};
+ghost use Rattle.route.specs.Table.{columns};
 ghost use Rattle.route.specs.Draw.{wireDrawn, allDrawn, DrawWireAnswer, DrawAllAnswer};
 use fit::misfit::fit;
 use jumper::asked::check_asked;
@@ -171,10 +171,11 @@ fn draw_wires(a: &[i32], b: &[i32], s: usize, d: i32, out: &mut [i32])
     requires { ⌜ Asked (now a) (now b) s d × (length (now a) * (s + 1) ≤ length (now out)) ⌝ }
     ensures { λ r. ⌜ now (out .exit) ≡ allDrawn (now (a .entry)) (now (b .entry)) s d (now (out .entry)) ⌝ }
 {
+    let n = a.len();
     let w = s + 1;
     let mut at: usize = 0;
     let mut i: usize = 0;
-    while i < a.len() {
+    while i < n {
         draw_columns(a, b, s, d, i, &mut out[at..]);
         at += w;
         i += 1;

@@ -1,4 +1,3 @@
-use mathlib.Core.Path.{_≡_, _∙_}
 use native.Mathlib.Omega.{arith}
 use borrow.Author.Needs.{needs, sfits-of}
 use mir.Syntax.{w32}
@@ -8,11 +7,6 @@ use Rattle.wiring.specs.Wiring.{pad}
 use Rattle.route.proofs.Wires.{left-drawn, right-drawn}
 use Rattle.route.proofs.drawing.draw_columns.Statement.{statement}
 use Rattle.route.proofs.drawing.draw_columns.Tie as tie
-use Rattle.route.proofs.drawing.draw_columns.Reads as reads
-use Rattle.route.proofs.drawing.draw_columns.Lts as lts
-use Rattle.route.proofs.drawing.draw_left.Reads as draw-left-reads
-use Rattle.route.proofs.drawing.draw_right.Reads as draw-right-reads
-use Rattle.route.proofs.drawing.top_pad.Reads as top-pad-reads
 
 top-pad-requires : tie.Need-top-pad-requires
 top-pad-requires c κs =

@@ -1,22 +1,13 @@
-use mathlib.Core.Path.{_≡_, _∙_}
-use Prim.Native.Nat.{_+_, _≤_}
 use native.Mathlib.Omega.{arith}
 use borrow.Author.Needs.{needs}
 use mir.Syntax.{w32}
-use mir.Val.{toZ, ofZ}
 use mir.ValLaws.{toZ-ofZ}
-use lib.ListN.{length}
 use Rattle.wiring.specs.Wiring.{pad}
 use Rattle.wiring.specs.Drawing.{leftward}
 use Rattle.route.proofs.Places.{straight-on}
 use Rattle.route.proofs.Wires.{leftward-free}
 use Rattle.route.proofs.drawing.draw_left.Statement.{statement}
 use Rattle.route.proofs.drawing.draw_left.Tie as tie
-use Rattle.route.proofs.drawing.draw_left.Reads as reads
-use Rattle.route.proofs.drawing.draw_left.Lts as lts
-use Rattle.route.proofs.drawing.fewer.Reads as fewer-reads
-use Rattle.route.proofs.drawing.held_left.Reads as held-left-reads
-use Rattle.route.proofs.drawing.straight.Reads as straight-reads
 
 add-fewer : tie.Need-add-fewer
 add-fewer c = search needs

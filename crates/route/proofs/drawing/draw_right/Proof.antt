@@ -1,9 +1,6 @@
-use mathlib.Core.Path.{_≡_, _∙_}
-use Prim.Native.Nat.{_+_, _≤_}
 use native.Mathlib.Omega.{arith}
 use borrow.Author.Needs.{needs}
 use mir.Syntax.{w32}
-use mir.Val.{toZ, ofZ}
 use mir.ValLaws.{toZ-ofZ}
 use lib.ListN.{length}
 use Rattle.wiring.specs.Wiring.{pad}
@@ -12,11 +9,6 @@ use Rattle.route.proofs.Places.{straight-on}
 use Rattle.route.proofs.Wires.{rightward-free}
 use Rattle.route.proofs.drawing.draw_right.Statement.{statement}
 use Rattle.route.proofs.drawing.draw_right.Tie as tie
-use Rattle.route.proofs.drawing.draw_right.Reads as reads
-use Rattle.route.proofs.drawing.draw_right.Lts as lts
-use Rattle.route.proofs.drawing.fewer.Reads as fewer-reads
-use Rattle.route.proofs.drawing.held_right.Reads as held-right-reads
-use Rattle.route.proofs.drawing.straight.Reads as straight-reads
 
 add-fewer : tie.Need-add-fewer
 add-fewer c = search needs

@@ -1,6 +1,5 @@
 -- The loop's invariant: the first i wires stand, and `at` is the place after them.
-use mathlib.Core.Path.{_≡_, sym}
-use Prim.Native.Nat.{_+_, _-_, _≤_}
+use Prim.Native.Nat.{_-_, _≤_}
 use native.Mathlib.Omega.{arith}
 use borrow.Author.Needs.{needs}
 use lib.ListN.{length}
@@ -11,15 +10,12 @@ use Rattle.route.specs.Draw.{drawnOf}
 use Rattle.route.proofs.Places.{Drawn, drawn-none, drawn-all, drawn-room, drawn-part, drawn-next}
 use Rattle.route.proofs.drawing.draw_wires.Statement.{statement}
 use Rattle.route.proofs.drawing.draw_wires.Tie as tie
-use Rattle.route.proofs.drawing.draw_wires.Reads as reads
-use Rattle.route.proofs.drawing.draw_wires.Lts as lts
-use Rattle.route.proofs.drawing.draw_columns.Reads as draw-columns-reads
 
 abbrev Inv-loop : tie.InvT-loop
-Inv-loop a b s d out₀ w at₀ i₀ out at i = (i ≤ length a) × Drawn (drawnOf a b (toZ w32 d)) s (length a) out₀ i at out
+Inv-loop a b s d out₀ n w at₀ i₀ out at i = (i ≤ length a) × Drawn (drawnOf a b (toZ w32 d)) s (length a) out₀ i at out
 
 abbrev μ-loop : tie.MeasureT-loop
-μ-loop a b s d out₀ w at₀ i₀ out at i = length a - i
+μ-loop a b s d out₀ n w at₀ i₀ out at i = length a - i
 
 add-w : tie.Need-add-w Inv-loop μ-loop
 add-w c = search needs

@@ -1,7 +1,7 @@
 -- The loop's invariant: the first t columns stand, the other places hold what they held.
 use mathlib.Core.Path.{_≡_, refl, sym, _∙_}
 use mathlib.Core.List.{_++_}
-use Prim.Native.Nat.{_+_, _-_, _≤_}
+use Prim.Native.Nat.{_-_, _≤_}
 use native.Mathlib.Omega.{arith}
 use borrow.Author.Needs.{needs, sfits-of}
 use lib.ListN.{length, drop, length-set}
@@ -15,10 +15,6 @@ use Rattle.route.proofs.Places.{begun-next}
 use Rattle.route.proofs.Wires.{leftward-held}
 use Rattle.route.proofs.drawing.held_left.Statement.{statement}
 use Rattle.route.proofs.drawing.held_left.Tie as tie
-use Rattle.route.proofs.drawing.held_left.Reads as reads
-use Rattle.route.proofs.drawing.held_left.Lts as lts
-use Rattle.route.proofs.drawing.left_limit.Reads as left-limit-reads
-use Rattle.whole.proofs.larger.Reads as larger-reads
 
 abbrev Inv-loop : tie.InvT-loop
 Inv-loop a c i k out₀ t₀ out t = (t ≤ k) × (length out ≡ length out₀) × (out ≡ columns (leftward (pad a) (toZ w32 c) i) t ++ drop t out₀)

@@ -1,7 +1,7 @@
 -- The loop's invariant: the first t places hold c, the others what they held.
 use mathlib.Core.Path.{_≡_, refl}
 use mathlib.Core.List.{_++_}
-use Prim.Native.Nat.{_+_, _-_, _≤_}
+use Prim.Native.Nat.{_-_, _≤_}
 use native.Mathlib.Omega.{arith}
 use borrow.Author.Needs.{needs}
 use lib.ListN.{length, drop, length-set}
@@ -12,8 +12,6 @@ use Rattle.route.specs.Table.{columns}
 use Rattle.route.proofs.Places.{begun-next}
 use Rattle.route.proofs.drawing.straight.Statement.{statement}
 use Rattle.route.proofs.drawing.straight.Tie as tie
-use Rattle.route.proofs.drawing.straight.Reads as reads
-use Rattle.route.proofs.drawing.straight.Lts as lts
 
 abbrev Inv-loop : tie.InvT-loop
 Inv-loop c k out₀ t₀ out t = (t ≤ k) × (length out ≡ length out₀) × (out ≡ columns (λ u. toZ w32 c) t ++ drop t out₀)
