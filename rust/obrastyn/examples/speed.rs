@@ -51,18 +51,41 @@ fn rows(n: usize, tight: bool, seed: u64) -> (Vec<i32>, Vec<i32>) {
     (a, b)
 }
 
+fn rule(n: usize, tight: bool) {
+    let kind = if tight { "tight" } else { "loose" };
+    let (a, b) = rows(n, tight, 7 + n as u64);
+    let least = obrastyn::least(&a, &b, 0).separation;
+    let (x, y) = (&a[..], &b[..]);
+    row(&format!("fit, {n} pairs, {kind}, at the least"), race(|| obrastyn::fit(black_box(x), black_box(y), least, 0), || baseline::fit(black_box(x), black_box(y), least, 0)));
+    row(&format!("fit, {n} pairs, {kind}, at 1"), race(|| obrastyn::fit(black_box(x), black_box(y), 1, 0), || baseline::fit(black_box(x), black_box(y), 1, 0)));
+    row(&format!("least, {n} pairs, {kind}"), race(|| obrastyn::least(black_box(x), black_box(y), 0), || baseline::least(black_box(x), black_box(y), 0)));
+    row(&format!("range, {n} pairs, {kind}, at the least"), race(|| obrastyn::range(black_box(x), black_box(y), least), || baseline::range(black_box(x), black_box(y), least)));
+    row(&format!("range, {n} pairs, {kind}, at 1"), race(|| obrastyn::range(black_box(x), black_box(y), 1), || baseline::range(black_box(x), black_box(y), 1)));
+    let (mut ours, mut plain) = ([0usize; 24], [0usize; 24]);
+    row(&format!("best, {n} pairs, {kind}"), race(|| obrastyn::best(black_box(x), black_box(y), &mut ours), || baseline::best_with_ladder(black_box(x), black_box(y), &mut plain)));
+}
+
+/// Rows that need about `s` tracks at offset 0, drawn and checked at exactly `s`.
+fn route(n: usize, s: usize) {
+    let a: Vec<i32> = (0..n as i32).map(|i| 3 * i).collect();
+    let shift = 2 * s as i32 - 7;
+    let b: Vec<i32> = a.iter().map(|x| x + shift.max(0)).collect();
+    let (x, y) = (&a[..], &b[..]);
+    let mut ours = vec![0i32; n * (s + 1)];
+    let mut plain = ours.clone();
+    assert_eq!(obrastyn::draw_all(x, y, s, 0, &mut ours).refusal, 0);
+    row(&format!("draw all, {n} pairs by {s} tracks"), race(|| obrastyn::draw_all(black_box(x), black_box(y), s, 0, &mut ours), || baseline::draw_all(black_box(x), black_box(y), s, 0, &mut plain)));
+    assert_eq!(ours, plain);
+    row(&format!("check, {n} pairs by {s} tracks"), race(|| obrastyn::check(black_box(x), black_box(y), s, 0, &ours), || baseline::check(black_box(x), black_box(y), s, 0, &plain)));
+}
+
 fn main() {
     println!("{:44} {:>12} {:>12} {:>7}", "call", "ours, us", "plain, us", "ratio");
     for n in [64, 512, 2048] {
         for tight in [true, false] {
-            let kind = if tight { "tight" } else { "loose" };
-            let (a, b) = rows(n, tight, 7 + n as u64);
-            let least = obrastyn::least(&a, &b, 0).separation;
-            row(&format!("fit, {n} pairs, {kind}, at the least"), race(|| obrastyn::fit(black_box(&a), black_box(&b), least, 0), || baseline::fit(black_box(&a), black_box(&b), least, 0)));
-            row(&format!("fit, {n} pairs, {kind}, at 1"), race(|| obrastyn::fit(black_box(&a), black_box(&b), 1, 0), || baseline::fit(black_box(&a), black_box(&b), 1, 0)));
-            row(&format!("least, {n} pairs, {kind}"), race(|| obrastyn::least(black_box(&a), black_box(&b), 0), || baseline::least(black_box(&a), black_box(&b), 0)));
-            row(&format!("range, {n} pairs, {kind}, at the least"), race(|| obrastyn::range(black_box(&a), black_box(&b), least), || baseline::range(black_box(&a), black_box(&b), least)));
-            row(&format!("range, {n} pairs, {kind}, at 1"), race(|| obrastyn::range(black_box(&a), black_box(&b), 1), || baseline::range(black_box(&a), black_box(&b), 1)));
+            rule(n, tight);
         }
     }
+    route(512, 256);
+    route(2048, 1024);
 }
