@@ -70,7 +70,7 @@ pub fn best_of(a: &[i32], b: &[i32], ladder: &mut [usize]) -> Best
     }
 }
 
-// The room is cleared at each call, so there are three sizes of it.
+// Arrays are cleared where they are made, so few pairs are halved in small ones.
 fn halve(a: &[i32], b: &[i32], ladder: &mut [usize]) -> Planned
     requires { ⌜ Plannable (now a) (now b) (now ladder) ⌝ }
     ensures { λ r. ⌜ IsPlanned (now (a .entry)) (now (b .entry)) (now (ladder .entry)) (now (ladder .exit)) r ⌝ }

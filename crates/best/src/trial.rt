@@ -18,8 +18,8 @@ fn difference(x: &[i32], i: usize, y: &[i32], j: usize) -> i32
     x[i] - y[j]
 }
 
-// At separation s among the m pairs in front of x and y. Two differences are read for pair 0 and two more in each round, so the rounds that were
-// made tell the count: a counter beside i would keep the loop from the wider registers.
+// At separation s among the m pairs in front of x and y. Two differences are read for pair 0 and two more in each round, so i, which counts the
+// rounds that were made, tells the count. A second counter of 64 bits would halve the width at which the loop runs.
 pub(crate) fn try_at(x: &[i32], y: &[i32], m: usize, s: usize) -> Trial
     requires { ⌜ Triable m (now x) (now y) s ⌝ }
     ensures { λ r. ⌜ r ≡ trialOf m (now (x .entry)) (now (y .entry)) s ⌝ }

@@ -1,3 +1,4 @@
+-- The measure is the pair count: at each call on an even half there are fewer pairs. What a level comes to is said in Climbs.antt, over plain lists.
 use mathlib.Core.Path.{_≡_, refl, sym, ap, _∙_}
 use Prim.Native.Nat.{_≤_, _-_}
 use native.Mathlib.Omega.{arith}
@@ -49,7 +50,7 @@ climb-lowest-requires : (t : ℕ) → climb-lts.Need-lowest-requires (told t) (c
 climb-lowest-requires t c κs = search needs
 
 climb-same-length : (t : ℕ) → climb-lts.Need-same-length (told t) (climb-at t) climb.Post
-climb-same-length t c = search needs
+climb-same-length t c = c .before .before .before .set-rung .kept .0
 
 climb-returns : (t : ℕ) → climb-lts.Need-returns (told t) (climb-at t) climb.Post
 climb-returns t c =
@@ -141,10 +142,16 @@ climb-set-rung-requires-2 t c κs =
     omega (arith, s .pre .1 .rungs, some-levels _ (s .pre .1 .rows .some), same-len-mid 2 (length l - 2) l (k .climb .last .1 .1 .1 .1 .1 .0) (k .climb .kept .1 .1 .1 .1 .1 .0))
 
 climb-same-length-2 : (t : ℕ) → climb-lts.Need-same-length-2 (told t) (climb-at t) climb.Post
-climb-same-length-2 t c = search needs
+climb-same-length-2 t c =
+    let k = c .before .before .before .before .before .before .before .before .before .before .before .before .before in
+    let a = k .before .before .before .before .before .before .before .before .before .before .before .before .before .before .before .before .args in
+    same-len-mid (a .m) (length (a .x .now) - a .m) (a .x .now) (k .climb .last .1 .1 .0) (k .climb .kept .1 .1 .0)
 
 climb-same-length-3 : (t : ℕ) → climb-lts.Need-same-length-3 (told t) (climb-at t) climb.Post
-climb-same-length-3 t c = search needs
+climb-same-length-3 t c =
+    let k = c .before .before .before .before .before .before .before .before .before .before .before .before .before in
+    let a = k .before .before .before .before .before .before .before .before .before .before .before .before .before .before .before .before .args in
+    same-len-mid (a .m) (length (a .y .now) - a .m) (a .y .now) (k .climb .last .1 .1 .1 .0) (k .climb .kept .1 .1 .1 .0)
 
 climb-same-length-4 : (t : ℕ) → climb-lts.Need-same-length-4 (told t) (climb-at t) climb.Post
 climb-same-length-4 t c = let k = c .before .before .before .before .before .before .before .before .before .before .before .before .before in k .climb .kept .0 ∙ k .before .before .before .before .before .before .before .before .before .before .before .even-half .kept .1 .1 .0
@@ -153,7 +160,10 @@ climb-same-length-5 : (t : ℕ) → climb-lts.Need-same-length-5 (told t) (climb
 climb-same-length-5 t c = let k = c .before .before .before .before .before .before .before .before .before .before .before .before .before in k .climb .kept .1 .0 ∙ k .before .before .before .before .before .before .before .even-half2 .kept .1 .1 .0
 
 climb-same-length-6 : (t : ℕ) → climb-lts.Need-same-length-6 (told t) (climb-at t) climb.Post
-climb-same-length-6 t c = search needs
+climb-same-length-6 t c =
+    let k = c .before .before .before .before .before .before .before .before .before .before .before .before .before in
+    let l = k .before .before .before .before .before .before .before .before .before .before .before .before .before .before .before .before .args .ladder .now in
+    c .before .before .set-rung2 .kept .0 ∙ same-len-mid 2 (length l - 2) l (k .climb .last .1 .1 .1 .1 .1 .0) (k .climb .kept .1 .1 .1 .1 .1 .0)
 
 climb-returns-2 : (t : ℕ) → climb-lts.Need-returns-2 (told t) (climb-at t) climb.Post
 climb-returns-2 t c =

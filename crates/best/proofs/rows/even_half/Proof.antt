@@ -1,3 +1,4 @@
+-- The loop's invariant: the first i entries are those of the even half.
 use mathlib.Core.Path.{_≡_, refl}
 use Prim.Native.Nat.{ℕ, _+_, _-_, _*_, _≤_}
 use native.Mathlib.Omega.{arith}

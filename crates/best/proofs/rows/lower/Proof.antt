@@ -1,3 +1,4 @@
+-- The loop's invariant: the first i entries are lowered.
 use mathlib.Core.Path.{_≡_, refl, sym, _∙_}
 use Prim.Native.Nat.{ℕ, _+_, _-_, _≤_}
 use native.Mathlib.Omega.{arith}

@@ -1,3 +1,4 @@
+-- The loop's invariant: low and high are the ends that pairs 0 to i set.
 use mathlib.Core.Path.{_≡_, refl, sym, ap, _∙_}
 use Prim.Native.Nat.{ℕ, _+_, _-_, _*_, _≤_}
 use native.Mathlib.Omega.{arith}
