@@ -4,11 +4,13 @@ ghost use mathlib.Core.Path.{_≡_};
 ghost use lib.ListN.{length};
 ghost use Rattle.jumper.specs.Rows.{checkedNumbers, checkRows};
 ghost use Rattle.fit.specs.Misfit.{fitOf};
+ghost use Rattle.fit.specs.Stretch.{StretchPlace};
 ghost use Rattle.fit.specs.Least.{leastNumbers, leastAnswer};
 ghost use Rattle.fit.specs.Offsets.{offsetsNumbers, offsetsAnswer};
 ghost use Rattle.best.specs.Best.{bestNumbers, bestAnswer, ladderBy, ladderOf};
 ghost use Rattle.route.specs.Draw.{wireRefusal, allRefusal, unlessRefused, wireDrawn, allDrawn};
 ghost use Rattle.route.specs.Check.{routeChecked};
+use fit::stretch::Place;
 use jumper::refusal::Numbers;
 
 // The row check: refusals 1 to 5.
@@ -41,6 +43,14 @@ pub extern "C" fn obrastyn_range(a: &[i32], b: &[i32], s: usize) -> Numbers
     ensures { λ r. ⌜ r ≡ offsetsNumbers (offsetsAnswer (now (a .entry)) (now (b .entry)) s) ⌝ }
 {
     fit::offsets::range_at(a, b, s).numbers()
+}
+
+// The stretch at fault, by its place: refused or fitting, it has no pads.
+#[no_mangle]
+pub extern "C" fn obrastyn_stretch(a: &[i32], b: &[i32], s: usize, d: i32) -> Place
+    ensures { λ r. ⌜ StretchPlace (now (a .entry)) (now (b .entry)) s d r ⌝ }
+{
+    fit::stretch::stretch_place(a, b, s, d)
 }
 
 // The best separation, its offsets and the count, with the ladder in front of the buffer: refusals 1 to 5 and 9.
