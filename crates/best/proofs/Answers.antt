@@ -6,24 +6,24 @@ use mathlib.Core.Logic.{_↔_}
 use Prim.Native.Nat.{ℕ, _+_, _*_, _≤_, _<_}
 use native.Mathlib.Omega.{arith}
 use borrow.Author.Tests.{lt-ltb, le-ltb}
-use lib.Dec.{eqb, ltb}
+use lib.Dec.{ltb}
 use lib.ListN.{length, drop}
 use lib.IntN.{ℤ}
-use lib.Signed.{_≤ℤ_, ltZ, leZ}
+use lib.Signed.{_≤ℤ_}
 use Rattle.whole.proofs.Arith.{up, down, arithℤ}
 use Rattle.wiring.specs.Wiring.{pad, HasWiring}
 use Rattle.wiring.specs.Fit.{leanOf, Fits}
 use Rattle.wiring.proofs.Theorem.{fit-exactly}
-use Rattle.jumper.specs.Limits.{maxPairs, firstColumn, lastColumn}
 use Rattle.jumper.specs.Refusals.{refusalNumbers}
-use Rattle.jumper.specs.Rows.{AcceptedRows, checkedNumbers, pick, orElse, faultAfter, rowFault, checkRows}
+use Rattle.jumper.specs.Rows.{AcceptedRows, checkRows}
 use Rattle.jumper.specs.Range.{Within}
 use Rattle.jumper.specs.Span.{rangeOf}
 use Rattle.jumper.specs.declared.refusal.Refusal.{Refusal}
-use Rattle.jumper.specs.declared.refusal.Refusal.the-variants.{Unequal, Empty, Long, Column, Order, Buffer}
+use Rattle.jumper.specs.declared.refusal.Refusal.the-variants.{Buffer}
 use Rattle.jumper.specs.declared.rows.Checked.{Checked}
 use Rattle.jumper.specs.declared.rows.Checked.the-variants.{Accepted, Refused as RowsRefused}
 use Rattle.jumper.proofs.Accepted.{numbered, refused-not, rows-of, of-rows}
+use Rattle.jumper.proofs.Checks.{early-rows}
 use Rattle.jumper.proofs.Spans.{range-exactly}
 use Rattle.best.specs.Halving.{halving, levels}
 use Rattle.best.specs.Best.{bestNumbers, halvingOf, ladderOf, plannedOf, bestAnswer, ladderBy, BestAnswer}
@@ -34,35 +34,10 @@ use Rattle.best.specs.declared.plan.Best.the-variants.{Found, Refused}
 use Rattle.best.proofs.Plans.{top-rises, halvable-lean}
 use Rattle.best.proofs.Bests.{BestOf, best-is-best, count-fixed, count-cheap, ladder-length}
 
--- the row check gives refusals 1 to 5 alone
-abbrev Early : Checked → Type 0
-Early r = checkedNumbers r .refusal ≤ 5
-
-either-early : (t : Bool) (r s : Checked) → Early r → Early s → Early (pick t r s)
-either-early true r s p q = p
-either-early false r s p q = q
-
-both-early : (r s : Checked) → Early r → Early s → Early (orElse r s)
-both-early Accepted s p q = q
-both-early (RowsRefused r) s p q = p
-
-fault-early : (p : ℤ) (k : ℕ) (xs : List ℤ) → Early (faultAfter p k xs)
-unfolding faultAfter
-fault-early p k [] = omega arith
-fault-early p k (x ∷ xs) =
-    either-early (ltZ x firstColumn) _ _ (omega arith)
-    (either-early (ltZ lastColumn x) _ _ (omega arith) (either-early (leZ x p) _ _ (omega arith) (fault-early x (k + 1) xs)))
-
-rows-early : (a b : List ℤ) → Early (checkRows a b)
-rows-early a b =
-    either-early (eqb (length a) (length b)) _ _
-    (either-early (eqb (length a) 0) _ _ (omega arith) (either-early (ltb maxPairs (length a)) _ _ (omega arith) (both-early (rowFault 0 a) (rowFault (length a) b) (fault-early _ 0 a) (fault-early _ (length a) b))))
-    (omega arith)
-
 module _ (a b : List ℤ) (before : List ℕ) where
   pub rows-refused : (f : Refusal) → checkRows a b ≡ RowsRefused f → BestAnswer a b before before (Refused f)
   rows-refused f e =
-      let n : refusalNumbers f .refusal ≤ 5 = rw e at (rows-early a b) in
+      let n : refusalNumbers f .refusal ≤ 5 = rw e at (early-rows a b) in
       let z : AcceptedRows a b → ⊥ = λ r. refused-not f (sym e ∙ of-rows a b r) in
       record {
         answer = rw e;
