@@ -39,4 +39,26 @@ obrastyn_numbers obrastyn_draw_all(const int32_t *a, size_t an, const int32_t *b
 obrastyn_numbers obrastyn_check(const int32_t *a, size_t an, const int32_t *b, size_t bn, size_t s, int32_t d, const int32_t *table,
                                 size_t room);
 
+/* Where the stretch at fault lies: row 0 is the bottom row, 1 the top row; no pads where there is no misfit. */
+typedef struct {
+    uint8_t row;
+    size_t start;
+    size_t pads;
+} obrastyn_place;
+obrastyn_place obrastyn_stretch(const int32_t *a, size_t an, const int32_t *b, size_t bn, size_t s, int32_t d);
+
+/* One line of an order form. separation 65535 is "least", offset INT32_MIN is "best". */
+typedef struct {
+    size_t bottom; /* where its pads start in each pool, and how many pairs they are */
+    size_t top;
+    size_t pairs;
+    uint32_t separation;
+    int32_t offset;
+    obrastyn_numbers answer;
+} obrastyn_line;
+
+/* From target/staticlib/libform.a (`rt staticlib form`). 0, or 12 (LINE) for no such line or over 64 lines, and then nothing is written. */
+uint8_t answer_line(obrastyn_line *table, size_t lines, size_t k, const int32_t *a, size_t an, const int32_t *b, size_t bn);
+uint8_t answer_all(obrastyn_line *table, size_t lines, const int32_t *a, size_t an, const int32_t *b, size_t bn);
+
 #endif

@@ -79,6 +79,22 @@ fn route(n: usize, s: usize) {
     row(&format!("check, {n} pairs by {s} tracks"), race(|| obrastyn::check(black_box(x), black_box(y), s, 0, &ours), || baseline::check(black_box(x), black_box(y), s, 0, &plain)));
 }
 
+/// A full form: 64 lines of 2,048 pairs, "least" and "best".
+fn form(tight: bool) {
+    use reference::form::{Record, Wish};
+    let kind = if tight { "tight" } else { "loose" };
+    let (mut a, mut b) = (Vec::new(), Vec::new());
+    for line in 0..64 {
+        let (x, y) = rows(2048, tight, 99 + line);
+        a.extend(x);
+        b.extend(y);
+    }
+    let mut ours: Vec<obrastyn::Line> = (0..64).map(|k| obrastyn::Line { bottom: 2048 * k, top: 2048 * k, pairs: 2048, separation: obrastyn::LEAST, offset: obrastyn::BEST, ..Default::default() }).collect();
+    let mut plain: Vec<Record> = (0..64).map(|k| Record { bottom_start: 2048 * k, top_start: 2048 * k, count: 2048, wish: Wish { separation: None, offset: None }, answer: Default::default() }).collect();
+    let (x, y) = (&a[..], &b[..]);
+    row(&format!("form, 64 lines of 2048 pairs, {kind}"), race(|| obrastyn::answer_all(black_box(&mut ours), x, y), || baseline::answer_form(black_box(&mut plain), x, y)));
+}
+
 fn main() {
     println!("{:44} {:>12} {:>12} {:>7}", "call", "ours, us", "plain, us", "ratio");
     for n in [64, 512, 2048] {
@@ -86,6 +102,8 @@ fn main() {
             rule(n, tight);
         }
     }
+    form(true);
+    form(false);
     route(512, 256);
     route(2048, 1024);
 }

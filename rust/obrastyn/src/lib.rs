@@ -36,8 +36,37 @@ pub struct Numbers {
     pub count: usize,
 }
 
+/// Where the stretch at fault lies: row 0 is the bottom row, 1 the top row; no pads where there is no misfit.
+#[repr(C)]
+#[derive(Clone, Copy, Debug, Default, PartialEq, Eq)]
+pub struct Place {
+    pub row: u8,
+    pub start: usize,
+    pub pads: usize,
+}
+
+/// The mark for "least" as a line's separation.
+pub const LEAST: u32 = 65535;
+
+/// The mark for "best" as a line's offset.
+pub const BEST: i32 = i32::MIN;
+
+/// One line of an order form: where its pads start in each pool, how many pairs they are, its wish, and its answer.
+#[repr(C)]
+#[derive(Clone, Copy, Debug, Default, PartialEq, Eq)]
+pub struct Line {
+    pub bottom: usize,
+    pub top: usize,
+    pub pairs: usize,
+    /// A separation, or [`LEAST`].
+    pub separation: u32,
+    /// An offset, or [`BEST`].
+    pub offset: i32,
+    pub answer: Numbers,
+}
+
 mod raw {
-    use super::Numbers;
+    use super::{Line, Numbers, Place};
 
     // A slice of Rattle's is two arguments: a pointer and a count of elements. include/obrastyn.h says the same for C.
     extern "C" {
@@ -45,10 +74,14 @@ mod raw {
         pub fn obrastyn_fit(a: *const i32, an: usize, b: *const i32, bn: usize, s: usize, d: i32) -> Numbers;
         pub fn obrastyn_least(a: *const i32, an: usize, b: *const i32, bn: usize, d: i32) -> Numbers;
         pub fn obrastyn_range(a: *const i32, an: usize, b: *const i32, bn: usize, s: usize) -> Numbers;
+        pub fn obrastyn_stretch(a: *const i32, an: usize, b: *const i32, bn: usize, s: usize, d: i32) -> Place;
         pub fn obrastyn_best(a: *const i32, an: usize, b: *const i32, bn: usize, ladder: *mut usize, room: usize) -> Numbers;
         pub fn obrastyn_draw_wire(a: *const i32, an: usize, b: *const i32, bn: usize, s: usize, d: i32, wire: usize, out: *mut i32, room: usize) -> Numbers;
         pub fn obrastyn_draw_all(a: *const i32, an: usize, b: *const i32, bn: usize, s: usize, d: i32, out: *mut i32, room: usize) -> Numbers;
         pub fn obrastyn_check(a: *const i32, an: usize, b: *const i32, bn: usize, s: usize, d: i32, table: *const i32, room: usize) -> Numbers;
+        // The two calls over a table of records, from the archive of crate `form`.
+        pub fn answer_line(table: *mut Line, lines: usize, k: usize, a: *const i32, an: usize, b: *const i32, bn: usize) -> u8;
+        pub fn answer_all(table: *mut Line, lines: usize, a: *const i32, an: usize, b: *const i32, bn: usize) -> u8;
     }
 }
 
@@ -72,6 +105,13 @@ pub fn range(a: &[i32], b: &[i32], s: usize) -> Numbers {
     unsafe { raw::obrastyn_range(a.as_ptr(), a.len(), b.as_ptr(), b.len(), s) }
 }
 
+/// The stretch at fault, as that part of the caller's own row: for a misfit the pads i to i + s of the row in which they
+/// span fewer columns, the bottom row if equal; in every other case an empty part at the bottom row's start.
+pub fn stretch<'r>(a: &'r [i32], b: &'r [i32], s: usize, d: i32) -> &'r [i32] {
+    let place = unsafe { raw::obrastyn_stretch(a.as_ptr(), a.len(), b.as_ptr(), b.len(), s, d) };
+    &(if place.row == 0 { a } else { b })[place.start..place.start + place.pads]
+}
+
 /// The best separation, its offsets and the count of differences read: refusals 1 to 5, then BUFFER. The ladder (size and
 /// best separation of each level, from all pairs down to one; at most 24 numbers) is written in front of `ladder`.
 pub fn best(a: &[i32], b: &[i32], ladder: &mut [usize]) -> Numbers {
@@ -91,4 +131,15 @@ pub fn draw_all(a: &[i32], b: &[i32], s: usize, d: i32, out: &mut [i32]) -> Numb
 /// A table of columns from anyone, checked: refusals 1 to 7, BUFFER, then BADWIRE with the wire and track of its first fault.
 pub fn check(a: &[i32], b: &[i32], s: usize, d: i32, table: &[i32]) -> Numbers {
     unsafe { raw::obrastyn_check(a.as_ptr(), a.len(), b.as_ptr(), b.len(), s, d, table.as_ptr(), table.len()) }
+}
+
+/// Answers line `k` of a form: its record takes its answer, a refusal included, and nothing else changes. Returns 0, or LINE
+/// (12) where `k` is no line or the table has over 64, and then writes nothing.
+pub fn answer_line(table: &mut [Line], k: usize, bottoms: &[i32], tops: &[i32]) -> u8 {
+    unsafe { raw::answer_line(table.as_mut_ptr(), table.len(), k, bottoms.as_ptr(), bottoms.len(), tops.as_ptr(), tops.len()) }
+}
+
+/// Answers every line of a form. Returns 0, or LINE (12) where the table has over 64, and then writes nothing.
+pub fn answer_all(table: &mut [Line], bottoms: &[i32], tops: &[i32]) -> u8 {
+    unsafe { raw::answer_all(table.as_mut_ptr(), table.len(), bottoms.as_ptr(), bottoms.len(), tops.as_ptr(), tops.len()) }
 }

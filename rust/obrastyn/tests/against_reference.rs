@@ -42,6 +42,9 @@ fn calls(random: &mut Random, most: usize, rounds: usize) {
         assert_eq!(obrastyn::fit(&a, &b, s, d), told(rule::fit(&a, &b, s, d), false, false), "fit, {}", what());
         assert_eq!(obrastyn::least(&a, &b, d), told(rule::least(&a, &b, d), true, false), "least, {}", what());
         assert_eq!(obrastyn::range(&a, &b, s), told(rule::range(&a, &b, s), false, true), "range, {}", what());
+        let part = rule::stretch_part(&a, &b, s, d);
+        let ours = obrastyn::stretch(&a, &b, s, d);
+        assert!(ours == part && (part.is_empty() || ours.as_ptr() == part.as_ptr()), "stretch, {}", what());
         let room = random.below(30);
         let mut ours = vec![77usize; room];
         let mut theirs = ours.clone();
@@ -140,4 +143,39 @@ fn small_tables() {
 #[test]
 fn larger_tables() {
     tables(&mut Random::new(7), 60, 5_000);
+}
+
+/// A form over shared pools: lines that overlap, lines with damaged starts, counts and wishes, too many lines.
+#[test]
+fn forms() {
+    use reference::form::{answer_form, answer_line, Record, Wish};
+    let mut random = Random::new(8);
+    for round in 0..20_000 {
+        let (a, b) = any_rows(&mut random, 60);
+        let lines = if random.once_in(50) { 65 } else { random.below(7) };
+        let (mut ours, mut theirs) = (Vec::new(), Vec::new());
+        for _ in 0..lines {
+            let count = if random.once_in(20) { usize::MAX } else { random.below(a.len() + 3) };
+            let (i, j) = if random.once_in(20) { (usize::MAX - 1, 1) } else { (random.below(a.len() + 2), random.below(b.len() + 2)) };
+            let (i, j) = if random.once_in(2) { (0, 0) } else { (i, j) };
+            let s = if random.once_in(2) { obrastyn::LEAST } else { separation(&mut random, a.len()).min(70_000) as u32 };
+            let d = if random.once_in(2) { obrastyn::BEST } else { offset(&mut random, &a, &b) };
+            let wish = Wish { separation: (s != obrastyn::LEAST).then_some(s as usize), offset: (d != obrastyn::BEST).then_some(d) };
+            ours.push(obrastyn::Line { bottom: i, top: j, pairs: count, separation: s, offset: d, answer: Numbers { refusal: 99, ..Numbers::default() } });
+            theirs.push(Record { bottom_start: i, top_start: j, count, wish, answer: reference::numbers::Numbers { refusal: 99, ..Default::default() } });
+        }
+        let k = random.below(lines + 2);
+        let before = ours.clone();
+        assert_eq!(obrastyn::answer_line(&mut ours, k, &a, &b), if lines > 64 || k >= lines { 12 } else { 0 }, "round {round}");
+        answer_line(&mut theirs, k, &a, &b);
+        for (i, (x, y)) in ours.iter().zip(&theirs).enumerate() {
+            assert_eq!(x.answer, same(y.answer), "round {round}, line {i} after line {k}: {x:?}");
+            assert_eq!(obrastyn::Line { answer: before[i].answer, ..*x }, before[i], "round {round}, line {i}: only the answer is written");
+        }
+        assert_eq!(obrastyn::answer_all(&mut ours, &a, &b), if lines > 64 { 12 } else { 0 }, "round {round}");
+        answer_form(&mut theirs, &a, &b);
+        for (i, (x, y)) in ours.iter().zip(&theirs).enumerate() {
+            assert_eq!(x.answer, same(y.answer), "round {round}, line {i}: {x:?}");
+        }
+    }
 }
