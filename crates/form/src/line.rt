@@ -1,7 +1,6 @@
 // One line's record, answered by value.
 ghost use mathlib.Core.Path.{_≡_};
-ghost use Rattle.form.specs.Line.{outside, answerOf, answeredOf, LineAnswer};
-ghost use lib.ListN.{length};
+ghost use Rattle.form.specs.Line.{outside, withAnswer, LineAnswer};
 
 use crate::plan::plan;
 use crate::wish::wish_of;
@@ -32,7 +31,7 @@ fn runs_out(start: usize, pairs: usize, len: usize) -> bool
 
 // All the numbers of the answer to a record: LINE where its pads aren't in the pools, else what its wish is answered.
 fn answer(line: Line, pool_a: &[i32], pool_b: &[i32]) -> Numbers
-    ensures { λ r. ⌜ r ≡ answerOf line (now («pool_a» .entry)) (now («pool_b» .entry)) ⌝ }
+    ensures { λ r. ⌜ LineAnswer line (now («pool_a» .entry)) (now («pool_b» .entry)) (withAnswer line r) ⌝ }
 {
     let i = line.bottom;
     let j = line.top;

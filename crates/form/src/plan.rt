@@ -1,9 +1,7 @@
 // The answer to a wish for two rows, in all its numbers. The form and the sheet both ask here.
 ghost use mathlib.Core.Path.{_≡_};
-ghost use Rattle.form.specs.Plan.{plannedWith, fitPlan, leastPlan, rangePlan, bestPlan, planOf, PlanAnswer};
-ghost use Rattle.fit.specs.Misfit.{fitOf};
-ghost use Rattle.fit.specs.Least.{leastAnswer};
-ghost use Rattle.fit.specs.Offsets.{offsetsAnswer};
+ghost use Rattle.form.specs.Plan.{plannedWith, PlanAnswer};
+ghost use Rattle.form.specs.declared.wish.Wish.the-variants.{Fit, Least as Leastwise, Range, Best as Bestwise};
 
 use best::plan::Best;
 use best::plan::best_of;
@@ -33,7 +31,7 @@ fn planned(separation: usize, lowest: i32, highest: i32, pair: usize, side: u8, 
 }
 
 fn plan_fit(a: &[i32], b: &[i32], s: usize, d: i32) -> Numbers
-    ensures { λ r. ⌜ r ≡ fitPlan s d (fitOf (now (a .entry)) (now (b .entry)) s d) ⌝ }
+    ensures { λ r. ⌜ PlanAnswer (Fit s d) (now (a .entry)) (now (b .entry)) r ⌝ }
 {
     match fit(a, b, s, d) {
         Checked::Accepted => planned(s, d, d, 0, 0, 0),
@@ -42,7 +40,7 @@ fn plan_fit(a: &[i32], b: &[i32], s: usize, d: i32) -> Numbers
 }
 
 fn plan_least(a: &[i32], b: &[i32], d: i32) -> Numbers
-    ensures { λ r. ⌜ r ≡ leastPlan d (leastAnswer (now (a .entry)) (now (b .entry)) d) ⌝ }
+    ensures { λ r. ⌜ PlanAnswer (Leastwise d) (now (a .entry)) (now (b .entry)) r ⌝ }
 {
     match least_at(a, b, d) {
         Least::Straight => planned(0, d, d, 0, 0, 0),
@@ -52,7 +50,7 @@ fn plan_least(a: &[i32], b: &[i32], d: i32) -> Numbers
 }
 
 fn plan_range(a: &[i32], b: &[i32], s: usize) -> Numbers
-    ensures { λ r. ⌜ r ≡ rangePlan s (offsetsAnswer (now (a .entry)) (now (b .entry)) s) ⌝ }
+    ensures { λ r. ⌜ PlanAnswer (Range s) (now (a .entry)) (now (b .entry)) r ⌝ }
 {
     match range_at(a, b, s) {
         Offsets::Range(r) => planned(s, r.low, r.high, 0, 0, 0),
@@ -62,7 +60,7 @@ fn plan_range(a: &[i32], b: &[i32], s: usize) -> Numbers
 
 // The ladder isn't asked for here: it goes into a buffer of this call's own, which has room for the most levels there can be.
 fn plan_best(a: &[i32], b: &[i32]) -> Numbers
-    ensures { λ r. ⌜ r ≡ bestPlan (now (a .entry)) (now (b .entry)) ⌝ }
+    ensures { λ r. ⌜ PlanAnswer Bestwise (now (a .entry)) (now (b .entry)) r ⌝ }
 {
     let mut ladder = [0usize; 24];
     match best_of(a, b, &mut ladder) {
