@@ -1,37 +1,23 @@
 -- The ends of a range, one pair more: as a trial reads them.
 use mathlib.Core.Path.{_≡_, refl, sym, ap, _∙_}
-use mathlib.Core.Bool.{Bool, true, false, cond}
 use mathlib.Core.List.{List}
 use Prim.Native.Nat.{ℕ, _+_, _-_, _*_, _≤_, _<_}
 use native.Mathlib.Nat.{zero-add}
 use native.Mathlib.Omega.{arith}
 use lib.IntN.{ℤ, _-ℤ_}
-use lib.Signed.{ltZ}
 use Rattle.whole.specs.Pick.{firstBy, largest, smallest, largerOf, smallerOf}
-use Rattle.whole.proofs.Extremes.{first-more}
+use Rattle.whole.proofs.Extremes.{largest-more, smallest-more}
 use Rattle.wiring.specs.Wiring.{pad}
 use Rattle.wiring.specs.Fit.{lowEnd, highEnd}
 use Rattle.best.specs.Work.{Front, Near, trialOf}
 use Rattle.best.specs.declared.trial.Trial.{Trial}
 
-at-either : (f : ℕ → ℤ) (t : Bool) (i j : ℕ) → f (cond t i j) ≡ cond t (f i) (f j)
-at-either f true i j = refl
-at-either f false i j = refl
-
-pub largest-more : (f : ℕ → ℤ) (n : ℕ) → largest f (n + 1) ≡ largerOf (largest f n) (f (n + 1))
-unfolding largerOf
-largest-more f n = ap f (first-more ltZ f n) ∙ at-either f (ltZ (largest f n) (f (n + 1))) (n + 1) (firstBy ltZ f n)
-
-pub smallest-more : (f : ℕ → ℤ) (n : ℕ) → smallest f (n + 1) ≡ smallerOf (smallest f n) (f (n + 1))
-unfolding smallerOf
-smallest-more f n = ap f (first-more (λ x y. ltZ y x) f n) ∙ at-either f (ltZ (f (n + 1)) (smallest f n)) (n + 1) (firstBy (λ x y. ltZ y x) f n)
-
 -- as a loop takes them
 pub larger-step : (f : ℕ → ℤ) (n : ℕ) (old new r : ℤ) → old ≡ largest f n → new ≡ f (n + 1) → r ≡ largerOf old new → r ≡ largest f (n + 1)
-larger-step f n old new r p q e = e ∙ rw (p, q) (sym (largest-more f n))
+larger-step f n old new r p q e = e ∙ rw (p, q) (largest-more f n)
 
 pub smaller-step : (f : ℕ → ℤ) (n : ℕ) (old new r : ℤ) → old ≡ smallest f n → new ≡ f (n + 1) → r ≡ smallerOf old new → r ≡ smallest f (n + 1)
-smaller-step f n old new r p q e = e ∙ rw (p, q) (sym (smallest-more f n))
+smaller-step f n old new r p q e = e ∙ rw (p, q) (smallest-more f n)
 
 -- before the first round
 pub low-first : (x y : ℕ → ℤ) (s : ℕ) → x 0 -ℤ y s ≡ largest (lowEnd x y s) 0

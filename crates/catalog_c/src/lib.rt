@@ -4,7 +4,6 @@ ghost use Rattle.jumper.specs.Rows.{checkedNumbers};
 ghost use Rattle.fit.specs.Misfit.{fitOf};
 ghost use Rattle.fit.specs.Least.{leastNumbers, leastAnswer};
 ghost use Rattle.fit.specs.Offsets.{offsetsNumbers, offsetsAnswer};
-
 use jumper::refusal::Numbers;
 
 #[no_mangle]

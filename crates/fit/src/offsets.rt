@@ -5,7 +5,7 @@ ghost use lib.ListN.{length};
 ghost use Rattle.wiring.specs.Fit.{leanOf, lowEnd, highEnd};
 ghost use Rattle.jumper.specs.Asked.{AcceptedTracks};
 ghost use Rattle.jumper.specs.Span.{lowestAt, highestAt, rangeOf};
-ghost use Rattle.fit.specs.Offsets.{offsetsNumbers, rangeFound, OffsetsAnswer};
+ghost use Rattle.fit.specs.Offsets.{lowGap, highGap, gapsOf, offsetsNumbers, rangeFound, OffsetsAnswer};
 use jumper::asked::check_tracks;
 use jumper::range::OffsetRange;
 use jumper::refusal::Numbers;
@@ -50,6 +50,21 @@ pub fn range_at(a: &[i32], b: &[i32], s: usize) -> Offsets
     }
 }
 
+// The two differences of columns that pair i reads. The ends that it sets are these, s further on.
+fn low_gap(a: &[i32], b: &[i32], s: usize, i: usize) -> i32
+    requires { ⌜ AcceptedTracks (now a) (now b) s × (i + s < length (now a)) ⌝ }
+    ensures { λ r. ⌜ r ≡ lowGap (now (a .entry)) (now (b .entry)) s i ⌝ }
+{
+    a[i] - b[i + s]
+}
+
+fn high_gap(a: &[i32], b: &[i32], s: usize, i: usize) -> i32
+    requires { ⌜ AcceptedTracks (now a) (now b) s × (i + s < length (now a)) ⌝ }
+    ensures { λ r. ⌜ r ≡ highGap (now (a .entry)) (now (b .entry)) s i ⌝ }
+{
+    a[i + s] - b[i]
+}
+
 fn low_end(a: &[i32], b: &[i32], s: usize, i: usize) -> i32
     requires { ⌜ AcceptedTracks (now a) (now b) s × (i + s < length (now a)) ⌝ }
     ensures { λ r. ⌜ r ≡ lowEnd (leanOf (now (a .entry))) (leanOf (now (b .entry))) s i ⌝ }
@@ -64,21 +79,35 @@ fn high_end(a: &[i32], b: &[i32], s: usize, i: usize) -> i32
     a[i + s] - b[i] - s as i32
 }
 
-// The largest low end and the smallest high end.
-fn range_of(a: &[i32], b: &[i32], s: usize) -> OffsetRange
+// The largest low gap and the smallest high gap.
+fn gaps_of(a: &[i32], b: &[i32], s: usize) -> OffsetRange
     requires { ⌜ AcceptedTracks (now a) (now b) s × (s < length (now a)) ⌝ }
-    ensures { λ r. ⌜ r ≡ rangeOf (length (now (a .entry))) (leanOf (now (a .entry))) (leanOf (now (b .entry))) s ⌝ }
+    ensures { λ r. ⌜ r ≡ gapsOf (now (a .entry)) (now (b .entry)) s ⌝ }
 {
     let last = a.len() - s - 1;
-    let mut low = low_end(a, b, s, 0);
-    let mut high = high_end(a, b, s, 0);
+    let mut low = low_gap(a, b, s, 0);
+    let mut high = high_gap(a, b, s, 0);
     let mut i: usize = 0;
     while i < last {
         i += 1;
-        low = larger(low, low_end(a, b, s, i));
-        high = smaller(high, high_end(a, b, s, i));
+        low = larger(low, low_gap(a, b, s, i));
+        high = smaller(high, high_gap(a, b, s, i));
     }
     OffsetRange { low, high }
+}
+
+// The range at s, for s < n. The s that every end has is added once.
+pub(crate) fn range_of(a: &[i32], b: &[i32], s: usize) -> OffsetRange
+    requires { ⌜ AcceptedTracks (now a) (now b) s × (s < length (now a)) ⌝ }
+    ensures { λ r. ⌜ r ≡ rangeOf (length (now (a .entry))) (leanOf (now (a .entry))) (leanOf (now (b .entry))) s ⌝ }
+{
+    let g = gaps_of(a, b, s);
+    let low = g.low;
+    let high = g.high;
+    OffsetRange {
+        low: low + s as i32,
+        high: high - s as i32,
+    }
 }
 
 // The first pair that sets the lowest offset. Only a refusal asks for it, so the loop above is spared the places.
