@@ -1,7 +1,6 @@
 // One line's record, answered by value.
 ghost use mathlib.Core.Path.{_≡_};
 ghost use Rattle.form.specs.Line.{outside, withAnswer, LineAnswer};
-
 use crate::plan::plan;
 use crate::wish::wish_of;
 use jumper::refusal::Numbers;
@@ -44,7 +43,11 @@ fn answer(line: Line, pool_a: &[i32], pool_b: &[i32]) -> Numbers
     }
     let p = i + n;
     let q = j + n;
-    plan(wish_of(line.separation, line.offset), &pool_a[i..p], &pool_b[j..q])
+    plan(
+        wish_of(line.separation, line.offset),
+        &pool_a[i..p],
+        &pool_b[j..q],
+    )
 }
 
 // The record with its answer, all else as it was.

@@ -2,10 +2,9 @@
 ghost use mathlib.Core.Path.{_≡_};
 ghost use Rattle.form.specs.Plan.{plannedWith, PlanAnswer};
 ghost use Rattle.form.specs.declared.wish.Wish.the-variants.{Fit, Least as Leastwise, Range, Best as Bestwise};
-
+use crate::wish::Wish;
 use best::plan::Best;
 use best::plan::best_of;
-use crate::wish::Wish;
 use fit::least::Least;
 use fit::least::least_at;
 use fit::misfit::fit;
@@ -14,7 +13,14 @@ use fit::offsets::range_at;
 use jumper::refusal::Numbers;
 use jumper::rows::Checked;
 
-fn planned(separation: usize, lowest: i32, highest: i32, pair: usize, side: u8, count: usize) -> Numbers
+fn planned(
+    separation: usize,
+    lowest: i32,
+    highest: i32,
+    pair: usize,
+    side: u8,
+    count: usize,
+) -> Numbers
     ensures { λ r. ⌜ r ≡ plannedWith separation lowest highest pair side count ⌝ }
 {
     Numbers {
