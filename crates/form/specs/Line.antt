@@ -63,3 +63,13 @@ pub record LineAnswer (l : Line) (p q : List ℤ) (r : Line) : Type 0 where
   pub inside : r .answer .refusal ≡ 0 → Inside l p q
   pub planned : Inside l p q → PlanAnswer (wished l) (bottomOf l p) (topOf l q) (r .answer)
   pub equal : r .answer .refusal ≡ 1 → ⊥
+
+-- Two lines, each with its pools, that are the same but for where their pads lie: as many pairs, the same wish, the same pads. Their answers are the
+-- same (`own-answer` of proofs/Tables.antt).
+pub record SameLine (l : Line) (p q : List ℤ) (l' : Line) (p' q' : List ℤ) : Type 0 where
+  pub pairs : l .pairs ≡ l' .pairs
+  pub separation : l .separation ≡ l' .separation
+  pub offset : l .offset ≡ l' .offset
+  pub inside : Inside l p q ↔ Inside l' p' q'
+  pub bottom : bottomOf l p ≡ bottomOf l' p'
+  pub top : topOf l q ≡ topOf l' q'

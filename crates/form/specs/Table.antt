@@ -1,10 +1,10 @@
 -- The table of a form (01): "one table with a record for each order line, and two pools of columns". These are the promises of the calls over it.
-use mathlib.Core.Bool.{Bool, cond}
+use mathlib.Core.Bool.{Bool, true, false, cond}
 use mathlib.Core.Path.{_≡_}
-use mathlib.Core.List.{List, map}
+use mathlib.Core.List.{List, [], _∷_, map}
 use mathlib.Core.Logic.{_↔_}
 use Prim.Native.Nat.{ℕ, _≤_, _<_}
-use lib.Dec.{ltb, leb}
+use lib.Dec.{eqb, ltb, leb}
 use lib.ListN.{length, getD, set}
 use lib.IntN.{ℤ, pos}
 use Rattle.jumper.specs.Limits.{maxLines}
@@ -44,6 +44,16 @@ answeredEach t p q = map (λ l. answeredOf l p q) t
 
 abbrev pub allDone : List Line → (poolA poolB : List ℤ) → List Line
 allDone t p q = cond (tooLong t) t (answeredEach t p q)
+
+-- lines answered one after the other, in the order of a list; and whether line j is among them. That this is answering all, in any order, is the law
+-- `all-in-any-order` of proofs/Tables.antt
+abbrev pub inOrder : List ℕ → List Line → (poolA poolB : List ℤ) → List Line
+inOrder [] t p q = t
+inOrder (k ∷ ks) t p q = inOrder ks (lineDone t k p q) p q
+
+abbrev pub among : ℕ → List ℕ → Bool
+among j [] = false
+among j (k ∷ ks) = cond (eqb j k) true (among j ks)
 
 -- What `answer_line` promises, of the table before and after it. The pools are lent to be read only.
 pub record OneAnswered (t : List Line) (k : ℕ) (p q : List ℤ) (r : ℕ) (t' : List Line) : Type 0 where
