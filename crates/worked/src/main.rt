@@ -1,0 +1,3 @@
+fn main() {
+    io::write_all(libc::STDOUT_FILENO, b"as meant\n");
+}
