@@ -12,4 +12,3 @@ mod Ladders
 mod Climbs
 mod Plans
 mod Answers
-mod Worked
