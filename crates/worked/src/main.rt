@@ -61,13 +61,13 @@ fn first_columns() -> [i32; 2049]
     row
 }
 
-// "2,048 pairs pass, 2,049 LONG." All their top pads one column to the right, 2,048 pairs need as many tracks.
+// "2,048 pairs pass, 2,049 LONG." With every top pad one column to the right, 2,048 pairs need as many tracks.
 fn pairs() {
     let row = first_columns();
-    show_place(b"2,049 pairs", fit(&row, &row, 0, 0).numbers());
     let most = &row[..2048];
     show_place(b"2,048 pairs", fit(most, most, 0, 0).numbers());
     show_witness(b"2,048 pairs, offset 1", least_at(most, most, 1).numbers());
+    show_place(b"2,049 pairs", fit(&row, &row, 0, 0).numbers());
 }
 
 // One pair, with a track between its pads.
