@@ -12,7 +12,7 @@ use Rattle.wiring.specs.Wiring.{HasWiring}
 use Rattle.wiring.specs.Fit.{leanOf}
 use Rattle.jumper.specs.Refusals.{refusalNumbers}
 use Rattle.jumper.specs.Rows.{AcceptedRows, checkRows}
-use Rattle.jumper.specs.Range.{Within}
+use Rattle.jumper.specs.Range.{Within, rangeNamed}
 use Rattle.jumper.specs.Span.{rangeOf}
 use Rattle.jumper.specs.declared.refusal.Numbers.{Numbers}
 use Rattle.jumper.specs.declared.refusal.Refusal.the-variants.{Buffer}
@@ -28,10 +28,6 @@ use Rattle.best.specs.declared.plan.Best.the-variants.{Found, Refused}
 abbrev pub bestNumbers : Best → Numbers
 bestNumbers (Found p) = record { refusal = 0; place = 0; second = 0; separation = p .separation; lowest = p .range .low; highest = p .range .high; pair = 0; side = 0; count = p .count }
 bestNumbers (Refused r) = refusalNumbers r
-
--- the range that the numbers name
-abbrev pub rangeNamed : Numbers → OffsetRange
-rangeNamed k = record { low = k .lowest; high = k .highest }
 
 -- the rule's halving of two rows, its ladder, and what it says of them
 abbrev pub halvingOf : (a b : List ℤ) → Halving

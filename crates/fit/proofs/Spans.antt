@@ -28,7 +28,7 @@ use Rattle.jumper.specs.declared.rows.Checked.the-variants.{Accepted, Refused}
 use Rattle.jumper.proofs.Accepted.{numbered, refused-not}
 use Rattle.jumper.proofs.Checks.{tracks-accepted, early-tracks}
 use Rattle.jumper.proofs.Spans.{range-exactly, none-fits}
-use Rattle.fit.specs.Offsets.{lowGap, highGap, gapsOf, rangeFound, offsetsNumbers, offsetsAnswer, OffsetsAnswer}
+use Rattle.fit.specs.Offsets.{lowGap, highGap, gapsOf, rangeFound, offsetsNumbers, offsetsAnswer, FirstLow, FirstHigh, OffsetsAnswer}
 use Rattle.fit.specs.declared.offsets.Offsets.{Offsets}
 use Rattle.fit.specs.declared.offsets.Offsets.the-variants.{Range, Refused as NoRange}
 use Rattle.fit.proofs.Ends.{low-is, high-is}
@@ -57,6 +57,8 @@ module _ (a b : List ℤ) (s : ℕ) where
         exactly = λ z. absurd (numbered r z);
         every = λ z. absurd (numbered r z);
         none = ((λ z. absurd (omega arith)), (λ z. absurd (refused-not r (sym e ∙ tracks-accepted a b s (z .0)))));
+        places = λ z. absurd (omega arith);
+        accepts = ((λ z. absurd (numbered r z)), (λ z. absurd (refused-not r (sym e ∙ tracks-accepted a b s (z .0)))));
       }
 
   module _ (k : AcceptedTracks a b s) where
@@ -80,8 +82,16 @@ module _ (a b : List ℤ) (s : ℕ) where
           some = λ z. omega arithℤ;
           exactly = λ z q. absurd (omega arith);
           every = λ z q. (refl, λ d. wired d .1 (fits-past n s x y d h));
+          places = λ z. absurd (omega arith);
+          accepts = ((λ z. (k, (wholeRange .low, wired (wholeRange .low) .1 (fits-past n s x y (wholeRange .low) h)))), (λ z. refl));
           none = ((λ z. absurd (omega arith)), (λ z. absurd (z .1 (wholeRange .low) (wired (wholeRange .low) .1 (fits-past n s x y (wholeRange .low) h)))));
         }
+
+    first-low : s < n → FirstLow a b s (lowestAt n x y s)
+    first-low h = let l = largest-law (lowEnd x y s) (n - s - 1) in record { inside = omega (arith, l .within); highest = λ j g. l .bounds j (omega arith); first = l .first }
+
+    first-high : s < n → FirstHigh a b s (highestAt n x y s)
+    first-high h = let l = smallest-law (highEnd x y s) (n - s - 1) in record { inside = omega (arith, l .within); lowest = λ j g. l .bounds j (omega arith); first = l .first }
 
     none-answer : s < n → ltZ (rangeOf n x y s .high) (rangeOf n x y s .low) ≡ true → OffsetsAnswer a b s (NoRange (NoOffset (lowestAt n x y s) (highestAt n x y s)))
     none-answer h e =
@@ -92,6 +102,8 @@ module _ (a b : List ℤ) (s : ℕ) where
           exactly = λ z. absurd (omega arith);
           every = λ z. absurd (omega arith);
           none = ((λ z. (k, λ d w. none-fits n x y s h .0 e d (wired d .0 w))), (λ z. refl));
+          places = λ z. (first-low h, first-high h);
+          accepts = ((λ z. absurd (omega arith)), (λ z. absurd (none-fits n x y s h .0 e (z .1 .0) (wired (z .1 .0) .0 (z .1 .1)))));
         }
 
     some-answer : s < n → ltZ (rangeOf n x y s .high) (rangeOf n x y s .low) ≡ false → OffsetsAnswer a b s (Range (rangeOf n x y s))
@@ -102,6 +114,8 @@ module _ (a b : List ℤ) (s : ℕ) where
           some = λ z. false-lt (rangeOf n x y s .high) (rangeOf n x y s .low) e;
           exactly = λ z q d. ((λ w. range-exactly n x y s h d .1 (wired d .0 w)), (λ w. wired d .1 (range-exactly n x y s h d .0 w)));
           every = λ z q. absurd (omega arith);
+          places = λ z. absurd (omega arith);
+          accepts = ((λ z. (k, (rangeOf n x y s .low, wired (rangeOf n x y s .low) .1 (range-exactly n x y s h (rangeOf n x y s .low) .0 (record { low = omega arithℤ; high = false-lt (rangeOf n x y s .high) (rangeOf n x y s .low) e }))))), (λ z. refl));
           none = ((λ z. absurd (omega arith)), (λ z. untrue (sym e ∙ none-fits n x y s h .1 (λ d f. z .1 d (wired d .1 f)))));
         }
 

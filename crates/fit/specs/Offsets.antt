@@ -10,10 +10,10 @@ use lib.IntN.{ℤ, _-ℤ_}
 use lib.Signed.{ltZ, _<ℤ_, _≤ℤ_}
 use Rattle.whole.specs.Pick.{largest, smallest}
 use Rattle.wiring.specs.Wiring.{pad, HasWiring}
-use Rattle.wiring.specs.Fit.{leanOf}
+use Rattle.wiring.specs.Fit.{leanOf, lowEnd, highEnd}
 use Rattle.jumper.specs.Refusals.{refusalNumbers}
 use Rattle.jumper.specs.Asked.{checkTracks, AcceptedTracks}
-use Rattle.jumper.specs.Range.{Within, wholeRange}
+use Rattle.jumper.specs.Range.{Within, rangeNamed, wholeRange}
 use Rattle.jumper.specs.Span.{lowestAt, highestAt, rangeOf}
 use Rattle.jumper.specs.declared.refusal.Numbers.{Numbers}
 use Rattle.jumper.specs.declared.refusal.Refusal.{Refusal}
@@ -56,9 +56,16 @@ unlessRefused (Refused r) q = NoRange r
 abbrev pub offsetsAnswer : (a b : List ℤ) (s : ℕ) → Offsets
 offsetsAnswer a b s = unlessRefused (checkTracks a b s) (rangeFound (length a) (leanOf a) (leanOf b) s)
 
--- the range that the numbers name
-abbrev pub rangeNamed : Numbers → OffsetRange
-rangeNamed k = record { low = k .lowest; high = k .highest }
+-- pair i is the first that sets the low end, and the first that sets the high end
+pub record FirstLow (a b : List ℤ) (s i : ℕ) : Type 0 where
+  pub inside : i + s < length a
+  pub highest : (j : ℕ) → j + s < length a → lowEnd (leanOf a) (leanOf b) s j ≤ℤ lowEnd (leanOf a) (leanOf b) s i
+  pub first : (j : ℕ) → j < i → lowEnd (leanOf a) (leanOf b) s j <ℤ lowEnd (leanOf a) (leanOf b) s i
+
+pub record FirstHigh (a b : List ℤ) (s i : ℕ) : Type 0 where
+  pub inside : i + s < length a
+  pub lowest : (j : ℕ) → j + s < length a → highEnd (leanOf a) (leanOf b) s i ≤ℤ highEnd (leanOf a) (leanOf b) s j
+  pub first : (j : ℕ) → j < i → highEnd (leanOf a) (leanOf b) s i <ℤ highEnd (leanOf a) (leanOf b) s j
 
 -- What `range_at` promises. For s < n the range holds exactly the offsets at which a legal wiring exists, and some; for s >= n every
 -- whole-number offset has one. NOOFFSET, exactly when no whole-number offset has one, names the first pair that sets each end.
@@ -69,3 +76,5 @@ pub record OffsetsAnswer (a b : List ℤ) (s : ℕ) (r : Offsets) : Type 0 where
   pub exactly : offsetsNumbers r .refusal ≡ 0 → s < length a → (d : ℤ) → HasWiring a b s d ↔ Within d (rangeNamed (offsetsNumbers r))
   pub every : offsetsNumbers r .refusal ≡ 0 → length a ≤ s → (rangeNamed (offsetsNumbers r) ≡ wholeRange) × ((d : ℤ) → HasWiring a b s d)
   pub none : (offsetsNumbers r .refusal ≡ 11) ↔ (AcceptedTracks a b s × ((d : ℤ) → HasWiring a b s d → ⊥))
+  pub places : offsetsNumbers r .refusal ≡ 11 → FirstLow a b s (offsetsNumbers r .place) × FirstHigh a b s (offsetsNumbers r .second)
+  pub accepts : (offsetsNumbers r .refusal ≡ 0) ↔ (AcceptedTracks a b s × ((d : ℤ) × HasWiring a b s d))

@@ -29,7 +29,7 @@ use Rattle.jumper.proofs.Accepted.{numbered}
 use Rattle.jumper.proofs.Checks.{Early, tracks-accepted, early-tracks, early-shift, early-rows}
 use Rattle.fit.specs.Misfit.{fitOf, refusing, misfitOf, FitAnswer}
 use Rattle.fit.specs.Least.{leastNumbers, leastOf, shown, unlessRefused, leastAnswer, LeastAnswer}
-use Rattle.fit.specs.Offsets.{offsetsNumbers, offsetsAnswer, rangeFound, rangeNamed, OffsetsAnswer}
+use Rattle.fit.specs.Offsets.{offsetsNumbers, offsetsAnswer, rangeFound, OffsetsAnswer}
 use Rattle.fit.specs.declared.misfit.Misfit.{Misfit}
 use Rattle.fit.specs.declared.misfit.Misfit.the-variants.{None, At}
 use Rattle.fit.specs.declared.least.Least.{Least}

@@ -10,13 +10,13 @@ use Rattle.wiring.specs.Wiring.{HasWiring}
 use Rattle.jumper.specs.Refusals.{sideNumber, refusalNumbers}
 use Rattle.jumper.specs.Rows.{AcceptedRows}
 use Rattle.jumper.specs.Asked.{AcceptedTracks, AcceptedShift, Asked}
-use Rattle.jumper.specs.Range.{Within, wholeRange}
+use Rattle.jumper.specs.Range.{Within, rangeNamed, wholeRange}
 use Rattle.jumper.specs.declared.refusal.Numbers.{Numbers}
 use Rattle.jumper.specs.declared.rows.Checked.{Checked}
 use Rattle.jumper.specs.declared.rows.Checked.the-variants.{Accepted, Refused}
 use Rattle.fit.specs.Misfit.{fitOf, Witness}
 use Rattle.fit.specs.Least.{leastAnswer}
-use Rattle.fit.specs.Offsets.{offsetsAnswer, rangeNamed}
+use Rattle.fit.specs.Offsets.{offsetsAnswer}
 use Rattle.fit.specs.declared.least.Least.{Least}
 use Rattle.fit.specs.declared.least.Least.the-variants.{Straight, Tracks, Refused as NoLeast}
 use Rattle.fit.specs.declared.offsets.Offsets.{Offsets}

@@ -6,7 +6,8 @@ use crate::line::answered;
 use jumper::limits::MAX_LINES;
 
 // Answers line k. LINE, and the table as it was, where k is no line or the table is too long.
-pub fn answer_line(table: &mut [Line], k: usize, pool_a: &[i32], pool_b: &[i32]) -> u8
+#[no_mangle]
+pub extern "C" fn answer_line(table: &mut [Line], k: usize, pool_a: &[i32], pool_b: &[i32]) -> u8
     ensures { λ r. ⌜ OneAnswered (now (table .entry)) k (now («pool_a» .entry)) (now («pool_b» .entry)) r (now (table .exit)) ⌝ }
 {
     if MAX_LINES < table.len() {
@@ -21,7 +22,8 @@ pub fn answer_line(table: &mut [Line], k: usize, pool_a: &[i32], pool_b: &[i32])
 }
 
 // Answers every line, whatever the others are answered. LINE, and the table as it was, where it is too long.
-pub fn answer_all(table: &mut [Line], pool_a: &[i32], pool_b: &[i32]) -> u8
+#[no_mangle]
+pub extern "C" fn answer_all(table: &mut [Line], pool_a: &[i32], pool_b: &[i32]) -> u8
     ensures { λ r. ⌜ AllAnswered (now (table .entry)) (now («pool_a» .entry)) (now («pool_b» .entry)) r (now (table .exit)) ⌝ }
 {
     if MAX_LINES < table.len() {

@@ -3,12 +3,17 @@ use lib.IntN.{ℤ}
 use lib.Signed.{_≤ℤ_}
 use Rattle.whole.specs.Pick.{largerOf, smallerOf}
 use Rattle.jumper.specs.Limits.{lowestOffset, highestOffset}
+use Rattle.jumper.specs.declared.refusal.Numbers.{Numbers}
 use Rattle.jumper.specs.declared.range.OffsetRange.{OffsetRange}
 
 -- an offset is in a range, both ends included
 pub record Within (d : ℤ) (r : OffsetRange) : Type 0 where
   pub low : r .low ≤ℤ d
   pub high : d ≤ℤ r .high
+
+-- the range that an answer's numbers name
+abbrev pub rangeNamed : Numbers → OffsetRange
+rangeNamed k = record { low = k .lowest; high = k .highest }
 
 abbrev pub wholeRange : OffsetRange
 wholeRange = record { low = lowestOffset; high = highestOffset }

@@ -56,10 +56,6 @@ module _ (n s : ℕ) (a b : ℕ → ℤ) (d : ℤ) where
     pub left-prevents : {i : ℕ} → TooLeft n s (lean a) (lean b) d i → Wirable n s a (shifted b d) → ⊥
     left-prevents l w = left-breaks l (fit-exactly .0 w)
 
-    -- one track more never hurts
-    pub wirable-next : Wirable n s a (shifted b d) → Fits n (suc s) (lean a) (lean b) d
-    wirable-next w = fits-next (lean-steady ra) (lean-steady rb) (fit-exactly .0 w)
-
 -- "At s = 0 this forces a_i = b_i + d for every i."
 pub straight : (n : ℕ) (a b : ℕ → ℤ) (d : ℤ) → Fits n 0 (lean a) (lean b) d ↔ ((i : ℕ) → i < n → a i ≡ b i +ℤ d)
 straight n a b d = (
@@ -71,6 +67,17 @@ straight n a b d = (
       let g : i + 0 ≡ i = omega arith in
       (omega (arithℤ, e i (omega arith), sum (a i) (pos 0), ap (shifted b d) g), omega (arithℤ, e i (omega arith), sum (shifted b d i) (pos 0), ap a g)))),
 )
+
+-- the same of wirings: there is one at s = 0 exactly when every top pad stands straight above its bottom pad
+pub straight-wiring : (n : ℕ) (a b : ℕ → ℤ) (d : ℤ) → Rising n a → Rising n b → Wirable n 0 a (shifted b d) ↔ ((i : ℕ) → i < n → a i ≡ b i +ℤ d)
+straight-wiring n a b d ra rb =
+    let f = fit-exactly n 0 a b d ra rb in
+    let g = straight n a b d in
+    ((λ w. g .0 (f .0 w)), (λ e. f .1 (g .1 e)))
+
+-- a fit at s is a fit at s + 1: one track more never hurts
+pub wirable-next : (n s : ℕ) (a b : ℕ → ℤ) (d : ℤ) → Rising n a → Rising n b → Wirable n s a (shifted b d) → Wirable n (suc s) a (shifted b d)
+wirable-next n s a b d ra rb w = fit-exactly n (suc s) a b d ra rb .1 (fits-next (lean-steady ra) (lean-steady rb) (fit-exactly n s a b d ra rb .0 w))
 
 -- "For s >= n .. every offset fits": a wiring exists
 pub wide-enough : (n s : ℕ) (a b : ℕ → ℤ) (d : ℤ) → Rising n a → Rising n b → n ≤ s → Wirable n s a (shifted b d)
