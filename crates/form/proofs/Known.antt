@@ -12,12 +12,10 @@ use lib.Signed.{ltZ, leZ}
 use Rattle.whole.proofs.Order.{untrue}
 use Rattle.wiring.specs.Fit.{leanOf}
 use Rattle.jumper.specs.Limits.{maxPairs, maxTracks, firstColumn, lastColumn, lowestOffset, highestOffset}
-use Rattle.jumper.specs.Refusals.{refusalNumbers}
 use Rattle.jumper.specs.Rows.{checkedNumbers, pick, orElse, faultAfter, rowFault, checkRows}
 use Rattle.jumper.specs.Asked.{tracksFault, offsetFault, checkTracks, checkOffset, checkAsked}
-use Rattle.jumper.specs.Span.{lowestAt, highestAt, rangeOf}
-use Rattle.jumper.specs.declared.refusal.Refusal.{Refusal}
-use Rattle.jumper.specs.declared.refusal.Refusal.the-variants.{Unequal, Empty, Long, Column, Order, Tracks as NoTracks, Offset, NoOffset}
+use Rattle.jumper.specs.Span.{rangeOf}
+use Rattle.jumper.specs.declared.refusal.Refusal.the-variants.{Unequal, Empty, Long, Column, Order, Tracks as NoTracks, Offset}
 use Rattle.jumper.specs.declared.rows.Checked.{Checked}
 use Rattle.jumper.specs.declared.rows.Checked.the-variants.{Accepted, Refused}
 use Rattle.fit.specs.Misfit.{misfitOf, refusing, fitOf}

@@ -1,9 +1,8 @@
 -- What each of the four calls promises, said of the numbers that answer its wish.
-use mathlib.Core.Path.{_≡_, refl, sym, ap, _∙_}
+use mathlib.Core.Path.{_≡_, refl, ap, _∙_}
 use mathlib.Core.Bool.{Bool, true, false}
 use mathlib.Core.List.{List}
-use mathlib.Core.Logic.{_↔_}
-use Prim.Native.Nat.{ℕ, zero, suc, _+_, _-_, _*_, _≤_, _<_}
+use Prim.Native.Nat.{ℕ, zero, suc, _+_, _-_, _≤_, _<_}
 use native.Mathlib.Decide.{decLt}
 use native.Mathlib.Omega.{arith}
 use lib.Dec.{ltb}
@@ -12,22 +11,20 @@ use lib.IntN.{ℤ, pos}
 use lib.Signed.{_≤ℤ_, ltZ}
 use Rattle.whole.proofs.Arith.{up, down, arithℤ, dif, sum}
 use Rattle.wiring.specs.Wiring.{HasWiring, pad}
-use Rattle.wiring.specs.Fit.{leanOf, lowEnd, highEnd, half}
+use Rattle.wiring.specs.Fit.{leanOf, half}
 use Rattle.wiring.proofs.Rule.{spread}
-use Rattle.jumper.specs.Limits.{maxPairs, lastColumn, AcceptedOffset}
+use Rattle.jumper.specs.Limits.{lastColumn, AcceptedOffset}
 use Rattle.jumper.specs.Refusals.{refusalNumbers}
 use Rattle.jumper.specs.Rows.{AcceptedRow, AcceptedRows, checkRows}
-use Rattle.jumper.specs.Asked.{checkTracks, checkOffset, checkAsked, AcceptedTracks, Asked}
-use Rattle.jumper.specs.Range.{Within, wholeRange}
-use Rattle.jumper.specs.Span.{lowestAt, highestAt, rangeOf}
+use Rattle.jumper.specs.Asked.{checkOffset, AcceptedTracks}
+use Rattle.jumper.specs.Span.{rangeOf}
 use Rattle.jumper.specs.declared.refusal.Refusal.{Refusal}
-use Rattle.jumper.specs.declared.refusal.Refusal.the-variants.{NoFit, NoOffset}
 use Rattle.jumper.specs.declared.range.OffsetRange.{OffsetRange}
 use Rattle.jumper.specs.declared.rows.Checked.{Checked}
 use Rattle.jumper.specs.declared.rows.Checked.the-variants.{Accepted, Refused}
 use Rattle.jumper.proofs.Accepted.{numbered}
-use Rattle.jumper.proofs.Checks.{Early, tracks-accepted, early-tracks, early-shift, early-rows}
-use Rattle.fit.specs.Misfit.{fitOf, refusing, misfitOf, FitAnswer}
+use Rattle.jumper.proofs.Checks.{Early, tracks-accepted, early-shift, early-rows}
+use Rattle.fit.specs.Misfit.{misfitOf, FitAnswer}
 use Rattle.fit.specs.Least.{leastNumbers, leastOf, shown, unlessRefused, leastAnswer, LeastAnswer}
 use Rattle.fit.specs.Offsets.{offsetsNumbers, offsetsAnswer, rangeFound, OffsetsAnswer}
 use Rattle.fit.specs.declared.misfit.Misfit.{Misfit}

@@ -5,16 +5,19 @@ use crate::line::Line;
 use crate::line::answered;
 use jumper::limits::MAX_LINES;
 
+// The number of Refusal::Line.
+const LINE: u8 = 12;
+
 // Answers line k. LINE, and the table as it was, where k is no line or the table is too long.
 #[no_mangle]
 pub extern "C" fn answer_line(table: &mut [Line], k: usize, pool_a: &[i32], pool_b: &[i32]) -> u8
     ensures { λ r. ⌜ OneAnswered (now (table .entry)) k (now («pool_a» .entry)) (now («pool_b» .entry)) r (now (table .exit)) ⌝ }
 {
     if MAX_LINES < table.len() {
-        return 12;
+        return LINE;
     }
     if table.len() <= k {
-        return 12;
+        return LINE;
     }
     let line = answered(table[k], pool_a, pool_b);
     table[k] = line;
@@ -27,7 +30,7 @@ pub extern "C" fn answer_all(table: &mut [Line], pool_a: &[i32], pool_b: &[i32])
     ensures { λ r. ⌜ AllAnswered (now (table .entry)) (now («pool_a» .entry)) (now («pool_b» .entry)) r (now (table .exit)) ⌝ }
 {
     if MAX_LINES < table.len() {
-        return 12;
+        return LINE;
     }
     let mut i: usize = 0;
     while i < table.len() {

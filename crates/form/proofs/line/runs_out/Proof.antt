@@ -1,5 +1,4 @@
 use Rattle.form.proofs.Lines.{runs-past, no-sum}
-use borrow.Author.Needs.{needs}
 use Rattle.form.proofs.line.runs_out.Statement.{statement}
 use Rattle.form.proofs.line.runs_out.Tie as tie
 

@@ -2,7 +2,7 @@
 -- record k is taken out of the row and copied, `answered` is called with it, its result is stored in record k's place, and the borrow is closed.
 -- Assumes nothing.
 use mathlib.Core.Path.{_≡_, refl, sym, ap, subst}
-use Prim.Native.Nat.{ℕ, _<_, _≤_, _^_, _*_}
+use Prim.Native.Nat.{ℕ, _<_, _^_, _*_}
 use mathlib.Core.List.{[], _∷_, List}
 use lib.Dec.{leb→le, nleb→lt, ltb→lt, nltb→le, lit<}
 use lib.IntN.{ℤ}
@@ -66,9 +66,6 @@ use Rattle.form.proofs.table.answer_line.Code.Mir as mir
 abbrev stayed : Stays (it.ended .signature .params) (it.ended .kept)
 stayed = (stay-slice (0 ∷ []) tt (plain (λ _. R)), (stay-none (λ _. usize) yes, (stay-none-slice (1 ∷ []) tt (plain (λ _. i32)) yes, (stay-none-slice (2 ∷ []) tt (plain (λ _. i32)) yes, tt))))
 
-abbrev Said : List Line → ℕ → List ℤ → List ℤ → ℕ → List Line → Type 0
-Said t k xs ys r zs = OneAnswered t k xs ys r zs
-
 module _ {M : Type 1} (𝓤 : URA M) (H : Heap 𝓤) (A : Atoms 𝓤) (W : Given 𝓤 H A) (mem : Memory → SProp 𝓤) (run : Routine → Fun 𝓤) (κ κa κb : Lft) (q qa qb : Share) (b o : ℕ) (γ : GName) (ys : List Line) (k : ℕ) (pa pb : RefT (List ℤ)) (k-fits : k < 2 ^ 64) (room : Room R (length ys)) where
   -- the borrow at the list l
   abbrev x : List Line → RefT (List Line)
@@ -109,7 +106,7 @@ module _ {M : Type 1} (𝓤 : URA M) (H : Heap 𝓤) (A : Atoms 𝓤) (W : Given
   abbrev Base : List Line → List (Item 𝓤) → List (Item 𝓤)
   Base l Γ = ‵ (fobs γ (codedHoleys R .code (heres R l))) ∷ ‵ (fbor κ (Held R (length l) b o γ)) ∷ ‵ (flft κ q) ∷ ‵ (Pools κa κb pa pb) ∷ Tokens ∷ Γ
 
-  exits : (r : ℕ) (zs : List Line) → r < 2 ^ 8 → length zs ≡ length ys → Said ys k (now pa) (now pb) r zs → ent 𝓤 (⋆ 𝓤 H A (Base zs [])) (Post (vint w8 r))
+  exits : (r : ℕ) (zs : List Line) → r < 2 ^ 8 → length zs ≡ length ys → OneAnswered ys k (now pa) (now pb) r zs → ent 𝓤 (⋆ 𝓤 H A (Base zs [])) (Post (vint w8 r))
   exits r zs fits l e =
       qed W (Base zs []) ∵ suffices ! _ (ends-at 𝓤 H A it.ended stayed (it.clauses 𝓤 H A mem run) W bound (vint w8 r) r (zs, (tt, (tt, (tt, tt)))) (l, (tt, (tt, (tt, tt))))) $ says ! e $
       move ! (2 ∷ 4 ∷ []) $ join ! $ frame ! $
@@ -124,7 +121,7 @@ module _ {M : Type 1} (𝓤 : URA M) (H : Heap 𝓤) (A : Atoms 𝓤) (W : Given
         ∷ (L′.mir, l₅) ∷ (tyInt w64, l₆) ∷ (tyBool, l₇) ∷ (tyPtr, l₈) ∷ (L′.mir, l₉) ∷ (tyPtr, l₁₀) ∷ []
 
     -- every local is room again: they are freed, and the function has ended
-    freed : (r : ℕ) (zs : List Line) → r < 2 ^ 8 → length zs ≡ length ys → Said ys k (now pa) (now pb) r zs
+    freed : (r : ℕ) (zs : List Line) → r < 2 ^ 8 → length zs ≡ length ys → OneAnswered ys k (now pa) (now pb) r zs
         → Sq W (Base zs (‵ (froom tyPtr l₁₀ 0) ∷ ‵ (fdies tyPtr l₁₀) ∷ ‵ (froom L′.mir l₉ 0) ∷ ‵ (fdies L′.mir l₉) ∷ ‵ (froom tyPtr l₈ 0) ∷ ‵ (fdies tyPtr l₈) ∷ ‵ (froom tyBool l₇ 0) ∷ ‵ (fdies tyBool l₇) ∷ ‵ (froom (tyInt w64) l₆ 0) ∷ ‵ (fdies (tyInt w64) l₆)
         ∷ ‵ (froom L′.mir l₅ 0) ∷ ‵ (fdies L′.mir l₅) ∷ ‵ (froom (sliceTy (tyRef (named 2) imm (tyInt w32))) l₄ 0) ∷ ‵ (fdies (sliceTy (tyRef (named 2) imm (tyInt w32))) l₄) ∷ ‵ (froom (sliceTy (tyRef (named 1) imm (tyInt w32))) l₃ 0) ∷ ‵ (fdies (sliceTy (tyRef (named 1) imm (tyInt w32))) l₃)
         ∷ ‵ (froom (tyInt w64) l₂ 0) ∷ ‵ (fdies (tyInt w64) l₂) ∷ ‵ (froom (sliceTy (tyRef (named 0) mut (pointee (R .written)))) l₁ 0) ∷ ‵ (fdies (sliceTy (tyRef (named 0) mut (pointee (R .written)))) l₁) ∷ ‵ (froom (tyInt w8) l₀ 0) ∷ ‵ (fdies (tyInt w8) l₀) ∷ [])) (frees E (prop (Post (vint w8 r))))

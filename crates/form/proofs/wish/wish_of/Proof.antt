@@ -2,7 +2,6 @@ use mir.Syntax.{w32}
 use mir.ValLaws.{toZ-ofZ}
 use borrow.Author.Tests.{eq-eqb, ne-eqb}
 use Rattle.form.specs.Wish.{leastMark}
-use borrow.Author.Needs.{needs}
 use Rattle.form.proofs.wish.wish_of.Statement.{statement}
 use Rattle.form.proofs.wish.wish_of.Tie as tie
 
