@@ -4,11 +4,14 @@ ghost use Prim.Native.Nat.{_+_, _-_, _≤_, _<_};
 ghost use lib.ListN.{length};
 ghost use Rattle.wiring.specs.Fit.{leanOf, lowEnd, highEnd};
 ghost use Rattle.jumper.specs.Asked.{AcceptedTracks};
+ghost use Rattle.jumper.specs.Span.{lowestAt, highestAt, rangeOf};
 ghost use Rattle.fit.specs.Offsets.{rangeFound, OffsetsAnswer};
 use jumper::asked::check_tracks;
 use jumper::range::OffsetRange;
 use jumper::refusal::Refusal;
 use jumper::rows::Checked;
+use whole::larger;
+use whole::smaller;
 
 pub enum Offsets {
     Range(OffsetRange),
@@ -39,35 +42,61 @@ fn high_end(a: &[i32], b: &[i32], s: usize, i: usize) -> i32
     a[i + s] - b[i] - s as i32
 }
 
+// The largest low end and the smallest high end.
+fn range_of(a: &[i32], b: &[i32], s: usize) -> OffsetRange
+    requires { ⌜ AcceptedTracks (now a) (now b) s × (s < length (now a)) ⌝ }
+    ensures { λ r. ⌜ r ≡ rangeOf (length (now (a .entry))) (leanOf (now (a .entry))) (leanOf (now (b .entry))) s ⌝ }
+{
+    let last = a.len() - s - 1;
+    let mut low = low_end(a, b, s, 0);
+    let mut high = high_end(a, b, s, 0);
+    let mut i: usize = 0;
+    while i < last {
+        i += 1;
+        low = larger(low, low_end(a, b, s, i));
+        high = smaller(high, high_end(a, b, s, i));
+    }
+    OffsetRange { low, high }
+}
+
+// The first pair that sets the lowest offset. Only a refusal asks for it, so the loop above is spared the places.
+fn low_place(a: &[i32], b: &[i32], s: usize, low: i32) -> usize
+    requires { ⌜ AcceptedTracks (now a) (now b) s × (s < length (now a)) × (low ≡ rangeOf (length (now a)) (leanOf (now a)) (leanOf (now b)) s .low) ⌝ }
+    ensures { λ r. ⌜ r ≡ lowestAt (length (now (a .entry))) (leanOf (now (a .entry))) (leanOf (now (b .entry))) s ⌝ }
+{
+    let mut i: usize = 0;
+    while low_end(a, b, s, i) < low {
+        i += 1;
+    }
+    i
+}
+
+// And the first that sets the highest.
+fn high_place(a: &[i32], b: &[i32], s: usize, high: i32) -> usize
+    requires { ⌜ AcceptedTracks (now a) (now b) s × (s < length (now a)) × (high ≡ rangeOf (length (now a)) (leanOf (now a)) (leanOf (now b)) s .high) ⌝ }
+    ensures { λ r. ⌜ r ≡ highestAt (length (now (a .entry))) (leanOf (now (a .entry))) (leanOf (now (b .entry))) s ⌝ }
+{
+    let mut i: usize = 0;
+    while high < high_end(a, b, s, i) {
+        i += 1;
+    }
+    i
+}
+
 fn range_found(a: &[i32], b: &[i32], s: usize) -> Offsets
     requires { ⌜ AcceptedTracks (now a) (now b) s ⌝ }
     ensures { λ r. ⌜ r ≡ rangeFound (length (now (a .entry))) (leanOf (now (a .entry))) (leanOf (now (b .entry))) s ⌝ }
 {
-    let n = a.len();
-    if n <= s {
+    if a.len() <= s {
         return Offsets::Range(OffsetRange::whole());
     }
-    let last = n - s - 1;
-    let mut low = low_end(a, b, s, 0);
-    let mut high = high_end(a, b, s, 0);
-    let mut low_at: usize = 0;
-    let mut high_at: usize = 0;
-    let mut i: usize = 0;
-    while i < last {
-        i += 1;
-        let l = low_end(a, b, s, i);
-        if low < l {
-            low = l;
-            low_at = i;
-        }
-        let h = high_end(a, b, s, i);
-        if h < high {
-            high = h;
-            high_at = i;
-        }
-    }
+    let r = range_of(a, b, s);
+    let low = r.low;
+    let high = r.high;
     if high < low {
-        return Offsets::Refused(Refusal::NoOffset(low_at, high_at));
+        let i = low_place(a, b, s, low);
+        let j = high_place(a, b, s, high);
+        return Offsets::Refused(Refusal::NoOffset(i, j));
     }
-    Offsets::Range(OffsetRange { low, high })
+    Offsets::Range(r)
 }

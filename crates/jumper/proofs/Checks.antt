@@ -1,19 +1,22 @@
 -- The checks 1 to 7 accept exactly what 01 accepts; and a check after another, by the first one's answer.
 use mathlib.Core.Path.{_≡_, refl, sym, ap, _∙_}
 use mathlib.Core.Bool.{Bool, true, false}
-use mathlib.Core.List.{List}
+use mathlib.Core.List.{List, [], _∷_}
 use mathlib.Core.Logic.{_↔_}
-use Prim.Native.Nat.{ℕ, _≤_}
+use Prim.Native.Nat.{ℕ, _+_, _≤_}
+use native.Mathlib.Omega.{arith}
 use borrow.Author.Tests.{ltb-false, le-ltb}
-use lib.Dec.{ltb}
+use lib.Dec.{eqb, ltb}
+use lib.ListN.{length}
 use lib.IntN.{ℤ}
-use lib.Signed.{ltZ}
+use lib.Signed.{ltZ, leZ}
 use Rattle.whole.proofs.Order.{false-lt, lt-false}
-use Rattle.jumper.specs.Limits.{maxTracks, lowestOffset, highestOffset, AcceptedOffset}
-use Rattle.jumper.specs.Rows.{AcceptedRows, checkedNumbers, pick, orElse, checkRows}
+use Rattle.jumper.specs.Limits.{maxPairs, firstColumn, lastColumn, maxTracks, lowestOffset, highestOffset, AcceptedOffset}
+use Rattle.jumper.specs.Refusals.{refusalNumbers}
+use Rattle.jumper.specs.Rows.{AcceptedRows, checkedNumbers, pick, orElse, faultAfter, rowFault, checkRows}
 use Rattle.jumper.specs.Asked.{tracksFault, offsetFault, checkTracks, checkOffset, checkAsked, AcceptedTracks, AcceptedShift, Asked, TracksCheck, OffsetCheck, AskedCheck}
 use Rattle.jumper.specs.declared.refusal.Refusal.{Refusal}
-use Rattle.jumper.specs.declared.refusal.Refusal.the-variants.{Tracks, Offset}
+use Rattle.jumper.specs.declared.refusal.Refusal.the-variants.{Unequal, Empty, Long, Column, Order, Tracks, Offset}
 use Rattle.jumper.specs.declared.rows.Checked.{Checked}
 use Rattle.jumper.specs.declared.rows.Checked.the-variants.{Accepted, Refused}
 use Rattle.jumper.proofs.Accepted.{accepted-of, number-of, second, both, rows-of, of-rows}
@@ -69,3 +72,48 @@ offset-check a b d r e = record { answer = e; accepts = ((λ n. accepted-shift a
 
 pub asked-check : (a b : List ℤ) (s : ℕ) (d : ℤ) (r : Checked) → r ≡ checkAsked a b s d → AskedCheck a b s d r
 asked-check a b s d r e = record { answer = e; accepts = ((λ n. accepted-asked a b s d (sym e ∙ accepted-of r n)), (λ t. number-of r (e ∙ asked-accepted a b s d t))) }
+
+-- the checks refuse with their own numbers only: at most 5, 6 and 7
+abbrev pub Early : ℕ → Checked → Type 0
+Early n Accepted = Unit {0}
+Early n (Refused r) = refusalNumbers r .refusal ≤ n
+
+early-pick : (n : ℕ) (t : Bool) (r s : Checked) → Early n r → Early n s → Early n (pick t r s)
+early-pick n true r s h k = h
+early-pick n false r s h k = k
+
+early-or : (n : ℕ) (r s : Checked) → Early n r → Early n s → Early n (orElse r s)
+early-or n Accepted s h k = k
+early-or n (Refused r) s h k = h
+
+early-up : (m n : ℕ) (r : Checked) → m ≤ n → Early m r → Early n r
+early-up m n Accepted l h = tt
+early-up m n (Refused r) l h = omega arith
+
+early-fault : (p : ℤ) (k : ℕ) (xs : List ℤ) → Early 5 (faultAfter p k xs)
+unfolding faultAfter
+early-fault p k [] = tt
+early-fault p k (x ∷ xs) =
+    early-pick 5 (ltZ x firstColumn) (Refused (Column k)) (pick (ltZ lastColumn x) (Refused (Column k)) (pick (leZ x p) (Refused (Order k)) (faultAfter x (k + 1) xs))) (omega arith)
+    (early-pick 5 (ltZ lastColumn x) (Refused (Column k)) (pick (leZ x p) (Refused (Order k)) (faultAfter x (k + 1) xs)) (omega arith)
+    (early-pick 5 (leZ x p) (Refused (Order k)) (faultAfter x (k + 1) xs) (omega arith) (early-fault x (k + 1) xs)))
+
+pub early-rows : (a b : List ℤ) → Early 5 (checkRows a b)
+early-rows a b =
+    let r = orElse (rowFault 0 a) (rowFault (length a) b) in
+    early-pick 5 (eqb (length a) (length b)) (pick (eqb (length a) 0) (Refused Empty) (pick (ltb maxPairs (length a)) (Refused Long) r)) (Refused Unequal)
+    (early-pick 5 (eqb (length a) 0) (Refused Empty) (pick (ltb maxPairs (length a)) (Refused Long) r) (omega arith)
+    (early-pick 5 (ltb maxPairs (length a)) (Refused Long) r (omega arith) (early-or 5 (rowFault 0 a) (rowFault (length a) b) (early-fault _ 0 a) (early-fault _ (length a) b))))
+    (omega arith)
+
+early-offset : (d : ℤ) → Early 7 (offsetFault d)
+early-offset d = early-pick 7 (ltZ d lowestOffset) (Refused Offset) (pick (ltZ highestOffset d) (Refused Offset) Accepted) (omega arith) (early-pick 7 (ltZ highestOffset d) (Refused Offset) Accepted (omega arith) tt)
+
+pub early-tracks : (a b : List ℤ) (s : ℕ) → Early 6 (checkTracks a b s)
+early-tracks a b s = early-or 6 (checkRows a b) (tracksFault s) (early-up 5 6 (checkRows a b) (omega arith) (early-rows a b)) (early-pick 6 (ltb maxTracks s) (Refused Tracks) Accepted (omega arith) tt)
+
+pub early-shift : (a b : List ℤ) (d : ℤ) → Early 7 (checkOffset a b d)
+early-shift a b d = early-or 7 (checkRows a b) (offsetFault d) (early-up 5 7 (checkRows a b) (omega arith) (early-rows a b)) (early-offset d)
+
+pub early-asked : (a b : List ℤ) (s : ℕ) (d : ℤ) → Early 7 (checkAsked a b s d)
+early-asked a b s d = early-or 7 (checkTracks a b s) (offsetFault d) (early-up 6 7 (checkTracks a b s) (omega arith) (early-tracks a b s)) (early-offset d)

@@ -8,7 +8,7 @@ use native.Mathlib.Numerals.{add-one}
 use native.Mathlib.Omega.{arith}
 use lib.IntN.{ℤ}
 use lib.Signed.{_≤ℤ_, _<ℤ_, ltZ}
-use Rattle.whole.specs.Pick.{firstBy, largestAt, smallestAt, largest, smallest}
+use Rattle.whole.specs.Pick.{largerOf, smallerOf, firstBy, largestAt, smallestAt, largest, smallest}
 use Rattle.whole.proofs.Arith.{up, down, arithℤ}
 use Rattle.whole.proofs.Order.{true-lt, false-lt}
 
@@ -64,6 +64,26 @@ smallest-law f n =
     record { within = p .within; bounds = λ j h. omega (arithℤ, p .bounds j h); first = λ j h. omega (arithℤ, p .first j h) }
 
 -- one place more, as a loop takes it
-pub first-more : (over : ℤ → ℤ → Bool) (f : ℕ → ℤ) (n : ℕ) → firstBy over f (n + 1) ≡ cond (over (f (firstBy over f n)) (f (n + 1))) (n + 1) (firstBy over f n)
+pub largest-more : (f : ℕ → ℤ) (n : ℕ) → largerOf (largest f n) (f (n + 1)) ≡ largest f (n + 1)
+unfolding firstBy largerOf
+largest-more f n = rw (add-one n) (go (ltZ (f (largestAt f n)) (f (suc n))))
+  where
+    go : (t : Bool) → cond t (f (suc n)) (f (largestAt f n)) ≡ f (cond t (suc n) (largestAt f n))
+    go true = refl
+    go false = refl
+
+pub smallest-more : (f : ℕ → ℤ) (n : ℕ) → smallerOf (smallest f n) (f (n + 1)) ≡ smallest f (n + 1)
+unfolding firstBy smallerOf
+smallest-more f n = rw (add-one n) (go (ltZ (f (suc n)) (f (smallestAt f n))))
+  where
+    go : (t : Bool) → cond t (f (suc n)) (f (smallestAt f n)) ≡ f (cond t (suc n) (smallestAt f n))
+    go true = refl
+    go false = refl
+
+pub largest-first : (f : ℕ → ℤ) → largest f 0 ≡ f 0
 unfolding firstBy
-first-more over f n = rw add-one
+largest-first f = refl
+
+pub smallest-first : (f : ℕ → ℤ) → smallest f 0 ≡ f 0
+unfolding firstBy
+smallest-first f = refl

@@ -47,6 +47,14 @@ le-false x y h = go (leZ x y) refl
     go true e = absurd (omega (arithℤ, true-le x y e))
     go false e = refl
 
+-- two tests of one order
+pub lt-same : (x y u v : ℤ) → (x <ℤ y → u <ℤ v) → (u <ℤ v → x <ℤ y) → ltZ x y ≡ ltZ u v
+lt-same x y u v f g = go (ltZ x y) refl
+  where
+    go : (t : Bool) → ltZ x y ≡ t → t ≡ ltZ u v
+    go true e = sym (lt-true u v (f (true-lt x y e)))
+    go false e = sym (lt-false u v (⊎-elim (λ h. h) (λ h. absurd (omega (arithℤ, g h, false-lt x y e))) (≤-or-< v u)))
+
 -- what the larger and the smaller of two are
 pub record Larger (x y z : ℤ) : Type 0 where
   pub first : x ≤ℤ z

@@ -1,0 +1,143 @@
+-- What `range_at` promises, from its answer; and the search for the pairs that set the ends of an empty range.
+use mathlib.Core.Path.{_≡_, refl, sym, ap, _∙_}
+use mathlib.Core.Bool.{Bool, true, false}
+use mathlib.Core.List.{List}
+use mathlib.Core.Logic.{_↔_, ⊎-elim}
+use Prim.Native.Nat.{ℕ, _+_, _-_, _<_, _≤_}
+use native.Mathlib.Decide.{decLt}
+use native.Mathlib.Nat.{eq-or-lt-of-le}
+use native.Mathlib.Omega.{arith}
+use borrow.Author.Tests.{lt-ltb, le-ltb}
+use lib.ListN.{length}
+use lib.IntN.{ℤ}
+use lib.Signed.{_≤ℤ_, ltZ}
+use Rattle.whole.proofs.Arith.{up, down, arithℤ}
+use Rattle.whole.proofs.Order.{true-lt, false-lt, untrue}
+use Rattle.whole.proofs.Extremes.{largest-law, smallest-law}
+use Rattle.wiring.specs.Wiring.{HasWiring}
+use Rattle.wiring.specs.Fit.{leanOf, lowEnd, highEnd, Fits}
+use Rattle.wiring.proofs.Rule.{fits-past}
+use Rattle.jumper.specs.Asked.{checkTracks, AcceptedTracks}
+use Rattle.jumper.specs.Range.{Within, wholeRange}
+use Rattle.jumper.specs.Span.{lowestAt, highestAt, rangeOf}
+use Rattle.jumper.specs.declared.refusal.Refusal.{Refusal}
+use Rattle.jumper.specs.declared.refusal.Refusal.the-variants.{NoOffset}
+use Rattle.jumper.specs.declared.rows.Checked.{Checked}
+use Rattle.jumper.specs.declared.rows.Checked.the-variants.{Accepted, Refused}
+use Rattle.jumper.proofs.Accepted.{numbered, refused-not}
+use Rattle.jumper.proofs.Checks.{tracks-accepted, early-tracks}
+use Rattle.jumper.proofs.Spans.{range-exactly, none-fits}
+use Rattle.fit.specs.Offsets.{rangeFound, offsetsNumbers, offsetsAnswer, OffsetsAnswer}
+use Rattle.fit.specs.declared.offsets.Offsets.{Offsets}
+use Rattle.fit.specs.declared.offsets.Offsets.the-variants.{Range, Refused as NoRange}
+use Rattle.fit.proofs.Misfits.{wiring-exactly}
+
+-- `rangeFound` by the code's tests
+module _ (n : ℕ) (x y : ℕ → ℤ) (s : ℕ) where
+  pub past-all : n ≤ s → rangeFound n x y s ≡ Range wholeRange
+  past-all h = rw (le-ltb s n h)
+
+  module _ (h : s < n) where
+    pub empty-range : ltZ (rangeOf n x y s .high) (rangeOf n x y s .low) ≡ true → rangeFound n x y s ≡ NoRange (NoOffset (lowestAt n x y s) (highestAt n x y s))
+    empty-range e = rw (lt-ltb s n h, e)
+
+    pub some-range : ltZ (rangeOf n x y s .high) (rangeOf n x y s .low) ≡ false → rangeFound n x y s ≡ Range (rangeOf n x y s)
+    some-range e = rw (lt-ltb s n h, e)
+
+module _ (a b : List ℤ) (s : ℕ) where
+  pub range-refused : (r : Refusal) → checkTracks a b s ≡ Refused r → OffsetsAnswer a b s (NoRange r)
+  range-refused r e =
+      let l = rw e at (early-tracks a b s) in
+      record {
+        answer = rw e;
+        asked = ((λ z. absurd (numbered r z)), (λ z. absurd (omega arith)));
+        some = λ z. absurd (numbered r z);
+        exactly = λ z. absurd (numbered r z);
+        every = λ z. absurd (numbered r z);
+        none = ((λ z. absurd (omega arith)), (λ z. absurd (refused-not r (sym e ∙ tracks-accepted a b s (z .0)))));
+      }
+
+  module _ (k : AcceptedTracks a b s) where
+    abbrev n : ℕ
+    n = length a
+
+    abbrev x : ℕ → ℤ
+    x = leanOf a
+
+    abbrev y : ℕ → ℤ
+    y = leanOf b
+
+    wired : (d : ℤ) → HasWiring a b s d ↔ Fits n s x y d
+    wired d = wiring-exactly (k .rows) s d
+
+    whole-answer : n ≤ s → OffsetsAnswer a b s (Range wholeRange)
+    whole-answer h =
+        record {
+          answer = rw (tracks-accepted a b s k) (sym (past-all n x y s h));
+          asked = ((λ z. k), (λ z. k));
+          some = λ z. omega arithℤ;
+          exactly = λ z q. absurd (omega arith);
+          every = λ z q. (refl, λ d. wired d .1 (fits-past n s x y d h));
+          none = ((λ z. absurd (omega arith)), (λ z. absurd (z .1 (wholeRange .low) (wired (wholeRange .low) .1 (fits-past n s x y (wholeRange .low) h)))));
+        }
+
+    none-answer : s < n → ltZ (rangeOf n x y s .high) (rangeOf n x y s .low) ≡ true → OffsetsAnswer a b s (NoRange (NoOffset (lowestAt n x y s) (highestAt n x y s)))
+    none-answer h e =
+        record {
+          answer = rw (tracks-accepted a b s k) (sym (empty-range n x y s h e));
+          asked = ((λ z. k), (λ z. k));
+          some = λ z. absurd (omega arith);
+          exactly = λ z. absurd (omega arith);
+          every = λ z. absurd (omega arith);
+          none = ((λ z. (k, λ d w. none-fits n x y s h .0 e d (wired d .0 w))), (λ z. refl));
+        }
+
+    some-answer : s < n → ltZ (rangeOf n x y s .high) (rangeOf n x y s .low) ≡ false → OffsetsAnswer a b s (Range (rangeOf n x y s))
+    some-answer h e =
+        record {
+          answer = rw (tracks-accepted a b s k) (sym (some-range n x y s h e));
+          asked = ((λ z. k), (λ z. k));
+          some = λ z. false-lt (rangeOf n x y s .high) (rangeOf n x y s .low) e;
+          exactly = λ z q d. ((λ w. range-exactly n x y s h d .1 (wired d .0 w)), (λ w. wired d .1 (range-exactly n x y s h d .0 w)));
+          every = λ z q. absurd (omega arith);
+          none = ((λ z. absurd (omega arith)), (λ z. untrue (sym e ∙ none-fits n x y s h .1 (λ d f. z .1 d (wired d .1 f)))));
+        }
+
+    pub range-answer : OffsetsAnswer a b s (rangeFound n x y s)
+    range-answer = go (decLt s n)
+      where
+        tested : s < n → (t : Bool) → ltZ (rangeOf n x y s .high) (rangeOf n x y s .low) ≡ t → OffsetsAnswer a b s (rangeFound n x y s)
+        tested h true e = rw (empty-range n x y s h e) (none-answer h e)
+        tested h false e = rw (some-range n x y s h e) (some-answer h e)
+
+        go : Dec (s < n) → OffsetsAnswer a b s (rangeFound n x y s)
+        go (yes h) = tested h (ltZ (rangeOf n x y s .high) (rangeOf n x y s .low)) refl
+        go (no h) = let g : n ≤ s = omega arith in rw (past-all n x y s g) (whole-answer g)
+
+-- the search for the first pair that sets an end: it isn't past, and the test tells whether it is reached
+module _ (a b : List ℤ) (s i : ℕ) (h : s < length a) where
+  pub low-inside : i ≤ lowestAt (length a) (leanOf a) (leanOf b) s → i + s < length a
+  low-inside k = omega (arith, largest-law (lowEnd (leanOf a) (leanOf b) s) (length a - s - 1) .within)
+
+  pub high-inside : i ≤ highestAt (length a) (leanOf a) (leanOf b) s → i + s < length a
+  high-inside k = omega (arith, smallest-law (highEnd (leanOf a) (leanOf b) s) (length a - s - 1) .within)
+
+  pub low-before : i ≤ lowestAt (length a) (leanOf a) (leanOf b) s → ltZ (lowEnd (leanOf a) (leanOf b) s i) (rangeOf (length a) (leanOf a) (leanOf b) s .low) ≡ true → i < lowestAt (length a) (leanOf a) (leanOf b) s
+  low-before k e =
+      let f = lowEnd (leanOf a) (leanOf b) s in
+      ⊎-elim (λ g. absurd (omega (arithℤ, true-lt (f i) (rangeOf (length a) (leanOf a) (leanOf b) s .low) e, ap f g))) (λ g. g) (eq-or-lt-of-le k)
+
+  pub low-here : i ≤ lowestAt (length a) (leanOf a) (leanOf b) s → ltZ (lowEnd (leanOf a) (leanOf b) s i) (rangeOf (length a) (leanOf a) (leanOf b) s .low) ≡ false → i ≡ lowestAt (length a) (leanOf a) (leanOf b) s
+  low-here k e =
+      let f = lowEnd (leanOf a) (leanOf b) s in
+      ⊎-elim (λ g. g) (λ g. absurd (omega (arithℤ, false-lt (f i) (rangeOf (length a) (leanOf a) (leanOf b) s .low) e, largest-law f (length a - s - 1) .first i g))) (eq-or-lt-of-le k)
+
+  pub high-before : i ≤ highestAt (length a) (leanOf a) (leanOf b) s → ltZ (rangeOf (length a) (leanOf a) (leanOf b) s .high) (highEnd (leanOf a) (leanOf b) s i) ≡ true → i < highestAt (length a) (leanOf a) (leanOf b) s
+  high-before k e =
+      let f = highEnd (leanOf a) (leanOf b) s in
+      ⊎-elim (λ g. absurd (omega (arithℤ, true-lt (rangeOf (length a) (leanOf a) (leanOf b) s .high) (f i) e, ap f g))) (λ g. g) (eq-or-lt-of-le k)
+
+  pub high-here : i ≤ highestAt (length a) (leanOf a) (leanOf b) s → ltZ (rangeOf (length a) (leanOf a) (leanOf b) s .high) (highEnd (leanOf a) (leanOf b) s i) ≡ false → i ≡ highestAt (length a) (leanOf a) (leanOf b) s
+  high-here k e =
+      let f = highEnd (leanOf a) (leanOf b) s in
+      ⊎-elim (λ g. g) (λ g. absurd (omega (arithℤ, false-lt (rangeOf (length a) (leanOf a) (leanOf b) s .high) (f i) e, smallest-law f (length a - s - 1) .first i g))) (eq-or-lt-of-le k)

@@ -1,0 +1,31 @@
+use mathlib.Core.Path.{_≡_, sym, _∙_}
+use Rattle.jumper.proofs.Checks.{accepted-tracks}
+use Rattle.fit.proofs.Spans.{range-refused, range-answer}
+use borrow.Author.Needs.{needs}
+use Rattle.fit.proofs.offsets.range_at.Statement.{statement}
+use Rattle.fit.proofs.offsets.range_at.Tie as tie
+
+check-tracks-requires : tie.Need-check-tracks-requires
+check-tracks-requires c κs = search needs
+
+enum-known-r : tie.Need-enum-known-r
+enum-known-r c = search needs
+
+enum-told : tie.Need-enum-told
+enum-told c = search needs
+
+range-found-requires : tie.Need-range-found-requires
+range-found-requires c κs = accepted-tracks _ _ _ (sym (c .before .before .check-tracks .ensures .answer) ∙ c .enum-told .given .1)
+
+returns : tie.Need-returns
+returns c =
+    range-refused _ _ _ _ (sym (c .before .before .before .check-tracks .ensures .answer) ∙ c .before .r .given .1)
+
+returns-2 : tie.Need-returns-2
+returns-2 c =
+    rw (c .range-found .ensures) (range-answer _ _ _ (accepted-tracks _ _ _ (sym (c .before .before .before .check-tracks .ensures .answer) ∙ c .before .enum-told .given .1)))
+
+pub range-at-spec : {M : Type 1} → statement M
+range-at-spec =
+    tie.close
+    (tie.spec check-tracks-requires enum-known-r enum-told range-found-requires returns returns-2)
