@@ -5,6 +5,7 @@ ghost use lib.ListN.{length};
 ghost use lib.IntN.{pos, natAbs, _+ℤ_, _-ℤ_};
 ghost use Rattle.wiring.specs.Wiring.{pad, topPad};
 ghost use Rattle.wiring.specs.Drawing.{entry};
+ghost use Rattle.jumper.specs.Limits.{AcceptedOffset};
 ghost use Rattle.jumper.specs.Rows.{AcceptedRow};
 ghost use Rattle.sheet.specs.Route.{differ};
 
@@ -22,6 +23,14 @@ fn behind(a: &[i32], k: usize, t: usize) -> i32
     ensures { λ r. ⌜ r ≡ pad (now (a .entry)) k +ℤ pos t ⌝ }
 {
     a[k] + t as i32
+}
+
+// The column of top pad i.
+pub(crate) fn top_column(b: &[i32], i: usize, d: i32) -> i32
+    requires { ⌜ AcceptedRow (now b) × AcceptedOffset d × (i < length (now b)) ⌝ }
+    ensures { λ r. ⌜ r ≡ topPad (now (b .entry)) d i ⌝ }
+{
+    b[i] + d
 }
 
 // The column on which wire i enters track t, if it ends on column c.

@@ -130,8 +130,9 @@ pub fn feed(
     feed_on(line, a, b, s, piece, out, at)
 }
 
-// The sheet ends. A last line without its line feed is a bad frame, and an open line is out of sequence.
-pub fn finish(line: &[u8; 160], s: State) -> State
+// Over a slice, whose length is told.
+fn finish_on(line: &[u8], s: State) -> State
+    requires { ⌜ length (now line) ≡ 160 ⌝ }
     ensures { λ r. ⌜ ((a b : List ℤ) → Finished s (now (line .entry)) a b r) ⌝ }
 {
     if busy(s) {
@@ -159,4 +160,11 @@ pub fn finish(line: &[u8; 160], s: State) -> State
             skip(seen)
         }
     }
+}
+
+// The sheet ends. A last line without its line feed is a bad frame, and an open line is out of sequence.
+pub fn finish(line: &[u8; 160], s: State) -> State
+    ensures { λ r. ⌜ ((a b : List ℤ) → Finished s (now (line .entry)) a b r) ⌝ }
+{
+    finish_on(line, s)
 }

@@ -8,6 +8,7 @@ ghost use Rattle.sheet.specs.Owes.{Given, CutGiven, DueGiven, AskedOut, 
 ghost use Rattle.sheet.specs.Route.{moveText};
 use crate::column::column;
 use crate::column::differs;
+use crate::column::top_column;
 use crate::state::State;
 use crate::state::show;
 use frame::write::Move;
@@ -74,7 +75,7 @@ fn give_wire(
     if s <= track {
         return OnWire { track, at };
     }
-    let c = b[i] + d;
+    let c = top_column(b, i, d);
     let mut t = track;
     let mut p = at;
     let mut x = column(a, c, i, t);

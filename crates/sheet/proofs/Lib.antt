@@ -1,0 +1,6 @@
+mod Lines
+mod Noted
+mod Planned
+mod Steps
+mod Routes
+pub mod Feeds
