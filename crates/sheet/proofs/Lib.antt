@@ -3,4 +3,5 @@ mod Noted
 mod Planned
 mod Steps
 mod Routes
+mod Gives
 pub mod Feeds

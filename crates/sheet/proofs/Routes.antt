@@ -179,3 +179,20 @@ route-stop l s d a b i t t' out out' p q h w =
     let R : List ℕ = wiresText l e s (i + 1) (length a - (i + 1)) in
     simp (lt-ltb _ _ h)
     (sym (append-assoc (take p out) (wireText l e i t (s - t)) R) ∙ ap (λ (z : List ℕ). z ++ R) w ∙ append-assoc (take q out') (wireText l e i t' (s - t')) R)
+
+-- ---- the steps of the loop over a wire's tracks
+
+pub wire-step : (l s : ℕ) (e : ℕ → ℕ → ℤ) (i : ℕ) (W out out' : List ℕ) (t p q : ℕ) (x y : ℤ) → t < s → x ≡ e i t → y ≡ e i (t + 1)
+    → W ≡ take p out ++ wireText l e i t (s - t) → take q out' ≡ take p out ++ moveText (record { line = l; wire = i; track = t; from = x; to = y })
+    → W ≡ take q out' ++ wireText l e i (t + 1) (s - (t + 1))
+wire-step l s e i W out out' t p q x y h ex ey w g =
+    let m : moveText (record { line = l; wire = i; track = t; from = x; to = y }) ≡ trackText l e i t = simp (ex, ey) in
+    w ∙ wire-more l s e i out out' t p q h (g ∙ ap (λ (z : List ℕ). take p out ++ z) m)
+
+pub wire-still : (l s : ℕ) (n : ℕ) (a c : ℕ → ℤ) → Rising n a → (i : ℕ) (W out : List ℕ) (t p : ℕ) (x z : ℤ) → i < n → x ≡ drawn n a c i t → z ≡ c i → differ x z ≡ false
+    → W ≡ take p out ++ wireText l (drawn n a c) i t (s - t) → W ≡ take p out ++ wireText l (drawn n a c) i s (s - s)
+wire-still l s n a c ra i W out t p x z here ex ez d w =
+    w ∙ ap (λ (y : List ℕ). take p out ++ y) (wire-stays l s n a c ra i t here (sym ex ∙ differ-not x z d ∙ ez))
+
+pub wire-full : (l s : ℕ) (e : ℕ → ℕ → ℤ) (i : ℕ) (W out out' : List ℕ) (t p : ℕ) → out' ≡ out → W ≡ take p out ++ wireText l e i t (s - t) → W ≡ take p out' ++ wireText l e i t (s - t)
+wire-full l s e i W out out' t p g w = w ∙ ap (λ (y : List ℕ). take p y ++ wireText l e i t (s - t)) (sym g)

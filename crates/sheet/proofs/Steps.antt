@@ -501,3 +501,52 @@ module _ (seen : ℕ → Bool) (at : ℕ) (line : List ℕ) (full : length line 
   pub end-inside-cut : (o : Order) (a b : List ℤ) → (at ≡ 0 → ⊥) → machine seen (inside o a b) (lastFrame (take at line)) ≡ refusalText (o .line) BadFrame
   unfolding machine react atEnd
   end-inside-cut o a b e = simp (full-text at line full e, append-nil)
+
+-- ---- a piece of a sheet
+
+-- the state with another length of the text so far
+abbrev pub moved : State → ℕ → State
+moved s at =
+    record { at = at; phase = s .phase; order = s .order; bottom = s .bottom; top = s .top; seen = s .seen; cut = s .cut; former = s .former; due = s .due; answer = s .answer; wires = s .wires; wire = s .wire; track = s .track }
+
+pub moved-busy : (s : State) (at : ℕ) → isBusy (moved s at) ≡ isBusy s
+unfolding isBusy
+moved-busy s at = refl
+
+module _ (W : List ℕ → List ℕ) (st : State) (line : List ℕ) (a b : List ℤ) (piece : List ℕ) (i : ℕ)
+    (inv : (rest : List ℕ) → W rest ≡ owes st line a b (drop i piece ++ rest)) (idle : isBusy st ≡ false)
+    (at' i' : ℕ) (line' : List ℕ) (k : Kept line (st .at) piece i at' i' line') where
+  pub kept-owes : (rest : List ℕ) → W rest ≡ owes (moved st at') line' a b (drop i' piece ++ rest)
+  unfolding owes later modeOf isHeld pending leftText
+  kept-owes rest =
+      inv rest ∙ ap (λ (fs : List Frame). pending st a b ++ machine (seenBy st) (modeOf st a b) fs) (k .frames rest)
+
+  -- a line feed: the text is whole
+  pub fed-owes : (r : State) (a' b' : List ℤ) → i' < length piece → Reacted (moved st at') a b (textFrame (take at' line')) r a' b'
+      → (rest : List ℕ) → W rest ≡ owes r line' a' b' (drop (i' + 1) piece ++ rest)
+  unfolding owes later framesFrom machine
+  fed-owes r a' b' h f rest =
+      let R : List ℕ = drop (i' + 1) piece ++ rest in
+      let d : drop i' piece ≡ 10 ∷ drop (i' + 1) piece = rw (add-one, drop-cons piece i' 0, k .feed h) in
+      let x : Frame = textFrame (take at' line') in
+      let m : Mode = modeOf (moved st at') a b in
+      let none : pending (moved st at') a b ≡ [] = not-busy (moved st at') a b (still idle) in
+      let first : W rest ≡ react (seenBy st) m x .out ++ machine (noted (seenBy st) x) (react (seenBy st) m x .to) (framesFrom [] R) =
+          kept-owes rest
+          ∙ ap (λ (p : List ℕ). p ++ machine (seenBy st) m (framesFrom (take at' line') (drop i' piece ++ rest))) none
+          ∙ ap (λ (p : List ℕ). machine (seenBy st) m (framesFrom (take at' line') (p ++ rest))) d in
+      let same : machine (noted (seenBy st) x) (modeOf r a' b') (framesFrom [] R) ≡ machine (seenBy r) (modeOf r a' b') (framesFrom [] R) =
+          machine-agree (noted (seenBy st) x) (seenBy r) (λ l g. sym (f .seen l g)) (modeOf r a' b') (framesFrom [] R) in
+      let at0 : take (r .at) line' ≡ [] = ap (λ (n : ℕ). take n line') (f .begun) in
+      first
+      ∙ ap (λ (p : List ℕ). p ++ machine (noted (seenBy st) x) (react (seenBy st) m x .to) (framesFrom [] R)) (sym (f .out))
+      ∙ ap (λ (y : Mode). pending r a' b' ++ machine (noted (seenBy st) x) y (framesFrom [] R)) (sym (f .to))
+      ∙ ap (λ (p : List ℕ). pending r a' b' ++ p) same
+      ∙ ap (λ (p : List ℕ). pending r a' b' ++ machine (seenBy r) (modeOf r a' b') (framesFrom p R)) (sym at0)
+    where
+      still : isBusy st ≡ false → isBusy (moved st at') ≡ false
+      still e = moved-busy st at' ∙ e
+
+pub some-taken : (st st₀ : State) (i : ℕ) → isBusy st ≡ true → (i ≡ 0 → st ≡ st₀) → isBusy st₀ ≡ false → 0 < i
+some-taken st st₀ zero b same idle = absurd (true≢false (sym b ∙ ap isBusy (same refl) ∙ idle))
+some-taken st st₀ (suc i) b same idle = omega arith
