@@ -36,9 +36,9 @@ module _ (k : Answer) (out : List ℕ) (at p : ℕ) (out' : List ℕ) (put : Lin
   answer-written n =
       either (leb (at + length (answerLine k)) (length out))
       (λ q.
-        let room : at + length (answerLine k) ≤ length out = leb-true _ _ q in
-        let g = put .room room in
-        ap (λ (z : ℕ). take z out') (g .0) ∙ ap (take (at + length (answerLine k))) (g .1) ∙ take-puts out at (answerLine k) room)
+      let room : at + length (answerLine k) ≤ length out = leb-true _ _ q in
+      let g = put .room room in
+      ap (λ (z : ℕ). take z out') (g .0) ∙ ap (take (at + length (answerLine k))) (g .1) ∙ take-puts out at (answerLine k) room)
       (λ q. absurd (n (put .full (leb-false _ _ q) .0)))
 
   answer-full : p ≡ at → (out' ≡ out) × (length out < at + 35)
@@ -76,15 +76,15 @@ module _ (s : State) (out : List ℕ) (at : ℕ) where
   unfolding pending leftText refusalText
   cut-put k p out' c e put n =
       let w : take p out' ≡ take at out ++ answerLine (shown (s .former) (refusalNumbers Sequence)) = answer-written k out at p out' put n ∙ ap (λ (z : Answer). take at out ++ answerLine z) e in
-      record
-      { part = record
-        { gave = λ a b.
-            simp c
-            (sym (append-assoc (take at out) (answerLine (shown (s .former) (refusalNumbers Sequence))) (dueText s ++ leftText s a b))
-            ∙ ap (λ (z : List ℕ). z ++ (dueText s ++ leftText s a b)) (sym w))
-        ; same = λ line a b rest. changed-later s false (s .due) (s .wire) (s .track) line a b rest
-        }
-      ; far = λ h. absurd (true≢false (sym h))
+      record {
+        part = record {
+          gave = λ a b.
+              simp c
+              (sym (append-assoc (take at out) (answerLine (shown (s .former) (refusalNumbers Sequence))) (dueText s ++ leftText s a b))
+              ∙ ap (λ (z : List ℕ). z ++ (dueText s ++ leftText s a b)) (sym w));
+          same = λ line a b rest. changed-later s false (s .due) (s .wire) (s .track) line a b rest;
+        };
+        far = λ h. absurd (true≢false (sym h));
       }
 
   -- ---- a 20
@@ -102,16 +102,16 @@ module _ (s : State) (out : List ℕ) (at : ℕ) where
   unfolding pending leftText
   due-put p out' c d put n =
       let w = answer-written (s .answer) out at p out' put n in
-      record
-      { part = record
-        { gave = λ a b.
-            simp (c, d)
-            (sym (append-assoc (take at out) (answerLine (s .answer)) (leftText s a b))
-            ∙ ap (λ (z : List ℕ). z ++ leftText s a b) (sym w))
-        ; same = λ line a b rest. changed-later s (s .cut) false (s .wire) (s .track) line a b rest
-        }
-      ; quiet = c
-      ; far = λ h. absurd (true≢false (sym h))
+      record {
+        part = record {
+          gave = λ a b.
+              simp (c, d)
+              (sym (append-assoc (take at out) (answerLine (s .answer)) (leftText s a b))
+              ∙ ap (λ (z : List ℕ). z ++ leftText s a b) (sym w));
+          same = λ line a b rest. changed-later s (s .cut) false (s .wire) (s .track) line a b rest;
+        };
+        quiet = c;
+        far = λ h. absurd (true≢false (sym h));
       }
 
 -- ---- the route
@@ -122,11 +122,11 @@ module _ (s : State) (a b : List ℤ) (out : List ℕ) (at : ℕ) (c : s .cut �
       → Given s a b out at (changed s (s .cut) (s .due) i t) p out'
   unfolding pending leftText isBusy
   route-given i t p out' g =
-      record
-      { gave = simp (c, d, le-leb _ _ few) (g .gave)
-      ; same = λ line rest. changed-later s (s .cut) (s .due) i t line a b rest
-      ; far = λ h. let n : length (take (s .wires) a) ≡ s .wires = length-take-le (s .wires) a fa in
-          let w : i < s .wires = ltb-true i (s .wires) (simp (c, d, le-leb _ _ few) at h) in g .far (omega arith)
+      record {
+        gave = simp (c, d, le-leb _ _ few) (g .gave);
+        same = λ line rest. changed-later s (s .cut) (s .due) i t line a b rest;
+        far = λ h. let n : length (take (s .wires) a) ≡ s .wires = length-take-le (s .wires) a fa in
+            let w : i < s .wires = ltb-true i (s .wires) (simp (c, d, le-leb _ _ few) at h) in g .far (omega arith);
       }
 
 -- rows that are accepted, and rows that are not
@@ -150,6 +150,10 @@ given-on {a = a} {b = b} g l h = record { gave = g .gave a b ∙ h .gave; same =
 pub given-end : {s r : State} {out out' : List ℕ} {at p : ℕ} (a b : List ℤ) → GivenOn s out at r p out' → (isBusy r ≡ true → length out < p + 35) → Given s a b out at r p out'
 given-end a b g f = record { gave = g .gave a b; same = λ line rest. g .same line a b rest; far = f }
 
-pub cut-busy : (s : State) → s .cut ≡ true → isBusy s ≡ true
+pub given-then : {s r t : State} {out out' out'' : List ℕ} {at p q : ℕ} → GivenOn s out at r p out' → GivenOn r out' p t q out'' → GivenOn s out at t q out''
+given-then g h = record { gave = λ a b. g .gave a b ∙ h .gave a b; same = λ line a b rest. h .same line a b rest ∙ g .same line a b rest }
+
+-- no route is so wide
+pub none-left : (s : State) {n : ℕ} {m : ℕ} → s .cut ≡ false → s .due ≡ false → 2048 < s .wires → isBusy s ≡ true → n < m
 unfolding isBusy
-cut-busy s e = simp e
+none-left s c d w h = absurd (true≢false (sym h ∙ simp (c, d, lt-leb _ _ w)))

@@ -48,20 +48,20 @@ unfolding hasLine withLine
 with-line seen l k h =
     either (leb 64 l)
     (λ e.
-      let n : k ≡ l → ⊥ = λ q. omega (arith, leb-true 64 l e) in
-      simp (e, ne-eqb _ _ n))
+    let n : k ≡ l → ⊥ = λ q. omega (arith, leb-true 64 l e) in
+    simp (e, ne-eqb _ _ n))
     (λ e.
-      either (eqb k l)
-      (λ f.
-        let q : k ≡ l = eqb-true k l f in
-        let z : bitOr seen (2 ^ l) / 2 ^ k % 2 ≡ 1 =
-            ap (λ (n : ℕ). bitOr seen (2 ^ l) / 2 ^ n % 2) q ∙ joined-bit seen l l ∙ (let s = same-bit l in omega arith) in
-        simp (e, f, z))
-      (λ f.
-        let n : k ≡ l → ⊥ = eqb-false k l f in
-        let z : bitOr seen (2 ^ l) / 2 ^ k % 2 ≡ seen / 2 ^ k % 2 =
-            joined-bit seen l k ∙ go (decLt k l) n in
-        simp (e, f, z)))
+    either (eqb k l)
+    (λ f.
+    let q : k ≡ l = eqb-true k l f in
+    let z : bitOr seen (2 ^ l) / 2 ^ k % 2 ≡ 1 =
+    ap (λ (n : ℕ). bitOr seen (2 ^ l) / 2 ^ n % 2) q ∙ joined-bit seen l l ∙ (let s = same-bit l in omega arith) in
+    simp (e, f, z))
+    (λ f.
+    let n : k ≡ l → ⊥ = eqb-false k l f in
+    let z : bitOr seen (2 ^ l) / 2 ^ k % 2 ≡ seen / 2 ^ k % 2 =
+    joined-bit seen l k ∙ go (decLt k l) n in
+    simp (e, f, z)))
   where
     go : Dec (k < l) → (k ≡ l → ⊥) → max (seen / 2 ^ k % 2) (2 ^ l / 2 ^ k % 2) ≡ seen / 2 ^ k % 2
     go (yes p) n = let s = lower-bit l k p in omega arith

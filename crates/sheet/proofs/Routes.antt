@@ -72,11 +72,11 @@ stays n a ra c i t u here le e =
     let x = entry-clamped n a ra c i t here in
     let y = entry-clamped n a ra c i u here in
     let low : entry n a c i u ≤ℤ c = ⊎-elim (λ p. p)
-        (λ p. omega (arithℤ, p .1, e, x .lower (omega (arith, p .0)), sum (a (i - u)) (pos u), sum (a (i - t)) (pos t), sum (a (i - u)) (pos (u - t)), spread ra (u - t) (i - u) (i - t) (omega (arith, p .0)) (omega arith)))
-        (y .below) in
+    (λ p. omega (arithℤ, p .1, e, x .lower (omega (arith, p .0)), sum (a (i - u)) (pos u), sum (a (i - t)) (pos t), sum (a (i - u)) (pos (u - t)), spread ra (u - t) (i - u) (i - t) (omega (arith, p .0)) (omega arith)))
+    (y .below) in
     let high : c ≤ℤ entry n a c i u = ⊎-elim (λ p. p)
-        (λ p. omega (arithℤ, p .1, e, x .upper (omega (arith, p .0)), dif (a (i + u)) (pos u), dif (a (i + t)) (pos t), sum (a (i + t)) (pos (u - t)), spread ra (u - t) (i + t) (i + u) (omega arith) (p .0)))
-        (y .above) in
+    (λ p. omega (arithℤ, p .1, e, x .upper (omega (arith, p .0)), dif (a (i + u)) (pos u), dif (a (i + t)) (pos t), sum (a (i + t)) (pos (u - t)), spread ra (u - t) (i + t) (i + u) (omega arith) (p .0)))
+    (y .above) in
     omega arithℤ
 
 no-tracks : (l : ℕ) (e : ℕ → ℕ → ℤ) (c : ℤ) (i t k : ℕ) → ((u : ℕ) → t ≤ u → e i u ≡ c) → wireText l e i t k ≡ []
@@ -105,9 +105,9 @@ module _ (m : Move) (out : List ℕ) (at : ℕ) where
   track-put p out' k n e =
       either (leb (at + length (moveLine m)) (length out))
       (λ q.
-        let room : at + length (moveLine m) ≤ length out = leb-true _ _ q in
-        let g = k .room room in
-        record { wrote = λ h. simp e (ap (λ (z : ℕ). take z out') (g .0) ∙ ap (take (at + length (moveLine m))) (g .1) ∙ take-puts out at (moveLine m) room); full = λ h. absurd (true≢false h) })
+      let room : at + length (moveLine m) ≤ length out = leb-true _ _ q in
+      let g = k .room room in
+      record { wrote = λ h. simp e (ap (λ (z : ℕ). take z out') (g .0) ∙ ap (take (at + length (moveLine m))) (g .1) ∙ take-puts out at (moveLine m) room); full = λ h. absurd (true≢false h) })
       (λ q. absurd (n (k .full (leb-false _ _ q) .0)))
 
 -- ---- one wire

@@ -123,8 +123,8 @@ complete-text s t d a b small =
     let B : List ℤ = take (s .order .pairs) b in
     either (eqb (planned t d A B .refusal) 0)
     (λ e.
-      let q = asked-true A B (planned t d A B .separation) (planned t d A B .lowest) (planned-asked t d A B (eqb-true _ _ e)) in
-      simp (e, le-leb _ _ small, q, whole-route (s .order .line) (planned t d A B .separation) (planned t d A B .lowest) A B))
+    let q = asked-true A B (planned t d A B .separation) (planned t d A B .lowest) (planned-asked t d A B (eqb-true _ _ e)) in
+    simp (e, le-leb _ _ small, q, whole-route (s .order .line) (planned t d A B .separation) (planned t d A B .lowest) A B))
     (λ e. simp e)
 
 -- ---- the line numbers
@@ -148,24 +148,24 @@ record Headed (earlier : ℕ → Bool) (o : Order) (n : ℕ) (r : State) : Type 
 refused-head : (earlier : ℕ → Bool) (o : Order) (n : ℕ) (r : State) (l : ℕ) (x : Refusal) → r ≡ refusing l x n → opens earlier o ≡ record { out = refusalText l x; to = skipping } → Headed earlier o n r
 unfolding modeOf
 refused-head earlier o n r l x e q =
-    record
-    { out = λ a b. ap (λ (z : State). pending z a b) e ∙ refusing-text l x n a b ∙ ap (λ (z : Reaction). z .out) (sym q)
-    ; to = λ a b. ap (λ (z : State). modeOf z a b) e ∙ ap (λ (z : Reaction). z .to) (sym q)
-    ; seen = ap (λ (z : State). z .seen) e
-    ; begun = ap (λ (z : State). z .at) e
-    ; uncut = ap (λ (z : State). z .cut) e
+    record {
+      out = λ a b. ap (λ (z : State). pending z a b) e ∙ refusing-text l x n a b ∙ ap (λ (z : Reaction). z .out) (sym q);
+      to = λ a b. ap (λ (z : State). modeOf z a b) e ∙ ap (λ (z : Reaction). z .to) (sym q);
+      seen = ap (λ (z : State). z .seen) e;
+      begun = ap (λ (z : State). z .at) e;
+      uncut = ap (λ (z : State). z .cut) e;
     }
 
 opened-head : (earlier : ℕ → Bool) (o : Order) (n : ℕ) (r : State) → o .pairs ≤ 2048 → r ≡ quietBy Inside o 0 0 n → opens earlier o ≡ record { out = []; to = inside o [] [] } → Headed earlier o n r
 unfolding modeOf isHeld
 opened-head earlier o n r few e q =
     let m : (a b : List ℤ) → modeOf (quietBy Inside o 0 0 n) a b ≡ inside o [] [] = λ a b. simp (le-leb _ _ few, le-leb 0 (o .pairs) (omega arith)) in
-    record
-    { out = λ a b. ap (λ (z : State). pending z a b) e ∙ quiet-none Inside o 0 0 n a b ∙ ap (λ (z : Reaction). z .out) (sym q)
-    ; to = λ a b. ap (λ (z : State). modeOf z a b) e ∙ m a b ∙ ap (λ (z : Reaction). z .to) (sym q)
-    ; seen = ap (λ (z : State). z .seen) e
-    ; begun = ap (λ (z : State). z .at) e
-    ; uncut = ap (λ (z : State). z .cut) e
+    record {
+      out = λ a b. ap (λ (z : State). pending z a b) e ∙ quiet-none Inside o 0 0 n a b ∙ ap (λ (z : Reaction). z .out) (sym q);
+      to = λ a b. ap (λ (z : State). modeOf z a b) e ∙ m a b ∙ ap (λ (z : Reaction). z .to) (sym q);
+      seen = ap (λ (z : State). z .seen) e;
+      begun = ap (λ (z : State). z .at) e;
+      uncut = ap (λ (z : State). z .cut) e;
     }
 
 heads : (before n : ℕ) (o : Order) → Headed (hasLine before) o n (headed before n o)
@@ -174,23 +174,23 @@ heads before n o =
     either (leb 64 (o .line))
     (λ e. refused-head (hasLine before) o n (headed before n o) (o .line) Line (simp e) (simp e))
     (λ e. either (hasLine before (o .line))
-      (λ f. refused-head (hasLine before) o n (headed before n o) (o .line) Twice (simp (e, f)) (simp (e, f)))
-      (λ f. either (eqb (o .pairs) 0)
-        (λ g. refused-head (hasLine before) o n (headed before n o) (o .line) Empty (simp (e, f, g)) (simp (e, f, g)))
-        (λ g. either (ltb 2048 (o .pairs))
-          (λ h. refused-head (hasLine before) o n (headed before n o) (o .line) Long (simp (e, f, g, h)) (simp (e, f, g, h)))
-          (λ h. opened-head (hasLine before) o n (headed before n o) (ltb-false 2048 (o .pairs) h) (simp (e, f, g, h)) (simp (e, f, g, h))))))
+    (λ f. refused-head (hasLine before) o n (headed before n o) (o .line) Twice (simp (e, f)) (simp (e, f)))
+    (λ f. either (eqb (o .pairs) 0)
+    (λ g. refused-head (hasLine before) o n (headed before n o) (o .line) Empty (simp (e, f, g)) (simp (e, f, g)))
+    (λ g. either (ltb 2048 (o .pairs))
+    (λ h. refused-head (hasLine before) o n (headed before n o) (o .line) Long (simp (e, f, g, h)) (simp (e, f, g, h)))
+    (λ h. opened-head (hasLine before) o n (headed before n o) (ltb-false 2048 (o .pairs) h) (simp (e, f, g, h)) (simp (e, f, g, h))))))
 
 -- ---- each phase
 
 header-reacted : (s r : State) (a b : List ℤ) (o : Order) → r ≡ heading s o → react (seenBy s) (modeOf s a b) (header o) ≡ opens (seenBy s) o → Reacted s a b (header o) r a b
 header-reacted s r a b o e q =
     let k = heads (s .seen) (withLine (s .seen) (o .line)) o in
-    rw e (record
-    { out = k .out a b ∙ ap (λ (x : Reaction). x .out) (sym q)
-    ; to = k .to a b ∙ ap (λ (x : Reaction). x .to) (sym q)
-    ; seen = seen-header s (heading s o) o (k .seen)
-    ; begun = k .begun
+    rw e (record {
+      out = k .out a b ∙ ap (λ (x : Reaction). x .out) (sym q);
+      to = k .to a b ∙ ap (λ (x : Reaction). x .to) (sym q);
+      seen = seen-header s (heading s o) o (k .seen);
+      begun = k .begun;
     })
 
 -- a frame that is refused under line l, or passed over
@@ -198,22 +198,22 @@ refused-reacted : (s r : State) (a b : List ℤ) (f : Frame) (l : ℕ) (x : Refu
     → react (seenBy s) (modeOf s a b) f ≡ record { out = refusalText l x; to = skipping } → ((k : ℕ) → noted (seenBy s) f k ≡ seenBy s k) → Reacted s a b f r a' b'
 unfolding modeOf
 refused-reacted s r a b f l x a' b' e q n =
-    rw e (record
-    { out = refusing-text l x (s .seen) a' b' ∙ ap (λ (z : Reaction). z .out) (sym q)
-    ; to = ap (λ (z : Reaction). z .to) (sym q)
-    ; seen = seen-other s (refusing l x (s .seen)) f refl n
-    ; begun = refl
+    rw e (record {
+      out = refusing-text l x (s .seen) a' b' ∙ ap (λ (z : Reaction). z .out) (sym q);
+      to = ap (λ (z : Reaction). z .to) (sym q);
+      seen = seen-other s (refusing l x (s .seen)) f refl n;
+      begun = refl;
     })
 
 passed-reacted : (s r : State) (a b : List ℤ) (f : Frame) → r ≡ skips (s .seen)
     → react (seenBy s) (modeOf s a b) f ≡ record { out = []; to = skipping } → ((k : ℕ) → noted (seenBy s) f k ≡ seenBy s k) → Reacted s a b f r a b
 unfolding modeOf
 passed-reacted s r a b f e q n =
-    rw e (record
-    { out = quiet-none Skipping noOrder 0 0 (s .seen) a b ∙ ap (λ (z : Reaction). z .out) (sym q)
-    ; to = ap (λ (z : Reaction). z .to) (sym q)
-    ; seen = seen-other s (skips (s .seen)) f refl n
-    ; begun = refl
+    rw e (record {
+      out = quiet-none Skipping noOrder 0 0 (s .seen) a b ∙ ap (λ (z : Reaction). z .out) (sym q);
+      to = ap (λ (z : Reaction). z .to) (sym q);
+      seen = seen-other s (skips (s .seen)) f refl n;
+      begun = refl;
     })
 
 pub ready-reacted : (s r : State) (a b : List ℤ) (f : Frame) → modeOf s a b ≡ ready → r ≡ readyTo s (saidOf f) → Reacted s a b f r a b
@@ -258,8 +258,8 @@ unfolding isHeld
 held s h =
     either (leb (s .bottom) (s .order .pairs))
     (λ e. either (leb (s .top) (s .order .pairs))
-      (λ f. record { bottom = leb-true _ _ e; top = leb-true _ _ f; few = leb-true _ _ (simp (e, f) at h) })
-      (λ f. absurd (false≢true (simp (e, f) at h))))
+    (λ f. record { bottom = leb-true _ _ e; top = leb-true _ _ f; few = leb-true _ _ (simp (e, f) at h) })
+    (λ f. absurd (false≢true (simp (e, f) at h))))
     (λ e. absurd (false≢true (simp e at h)))
 
 unheld : (s : State) → s .bottom ≤ s .order .pairs → s .top ≤ s .order .pairs → s .order .pairs ≤ 2048 → isHeld s ≡ true
@@ -276,11 +276,11 @@ module _ (s : State) (a b : List ℤ) (here : s .phase ≡ Inside) (ok : isHeld 
   inside-header r o e =
       let k = heads (s .seen) (withLine (s .seen) (o .line)) o in
       let q : react (seenBy s) (modeOf s a b) (header o) ≡ record { out = refusalText (s .order .line) Sequence ++ opens (seenBy s) o .out; to = opens (seenBy s) o .to } = rw (mode-inside s a b here ok) in
-      rw e (record
-      { out = cut-text (s .order .line) (heading s o) a b (k .uncut) ∙ ap (λ (t : List ℕ). refusalText (s .order .line) Sequence ++ t) (k .out a b) ∙ ap (λ (x : Reaction). x .out) (sym q)
-      ; to = k .to a b ∙ ap (λ (x : Reaction). x .to) (sym q)
-      ; seen = seen-header s (cutOff (s .order .line) (heading s o)) o (k .seen)
-      ; begun = k .begun
+      rw e (record {
+        out = cut-text (s .order .line) (heading s o) a b (k .uncut) ∙ ap (λ (t : List ℕ). refusalText (s .order .line) Sequence ++ t) (k .out a b) ∙ ap (λ (x : Reaction). x .out) (sym q);
+        to = k .to a b ∙ ap (λ (x : Reaction). x .to) (sym q);
+        seen = seen-header s (cutOff (s .order .line) (heading s o)) o (k .seen);
+        begun = k .begun;
       })
 
   -- the columns of a frame after those that the row has
@@ -307,23 +307,23 @@ module _ (s : State) (a b : List ℤ) (here : s .phase ≡ Inside) (ok : isHeld 
         let m : modeOf s a b ≡ inside (s .order) (take (s .bottom) a) (take (s .top) b) = mode-inside s a b here ok in
         either (eqb l (s .order .line))
         (λ e. either (leb (length cs) (s .order .pairs - s .bottom))
-          (λ f.
-            let small : length cs ≤ s .order .pairs - s .bottom = leb-true _ _ f in
-            let t : leb (s .bottom + length cs) (s .order .pairs) ≡ true = le-leb (s .bottom + length cs) (s .order .pairs) (omega arith) in
-            let q : r ≡ filling s (s .bottom + length cs) (s .top) = p .is ∙ simp (e, f) in
-            let j : take (s .bottom + length cs) a' ≡ take (s .bottom) a ++ cs = joined a a' (s .bottom) text cs la (omega arith) c long (p .put (eqb-true _ _ e) small) in
-            let g : react (seenBy s) (modeOf s a b) (bottom l cs) ≡ record { out = []; to = inside (s .order) (take (s .bottom) a ++ cs) (take (s .top) b) } = rw m (simp (e, bottoms, t)) in
-            let still : isHeld (filling s (s .bottom + length cs) (s .top)) ≡ true = unheld (filling s (s .bottom + length cs) (s .top)) (omega arith) (k .top) (k .few) in
-            record
-            { out = ap (λ (z : State). pending z a' b) q ∙ quiet-none Inside (s .order) (s .bottom + length cs) (s .top) (s .seen) a' b ∙ ap (λ (z : Reaction). z .out) (sym g)
-            ; to = ap (λ (z : State). modeOf z a' b) q ∙ mode-inside (filling s (s .bottom + length cs) (s .top)) a' b refl still ∙ ap (λ (z : List ℤ). inside (s .order) z (take (s .top) b)) j ∙ ap (λ (z : Reaction). z .to) (sym g)
-            ; seen = seen-other s r (bottom l cs) (ap (λ (z : State). z .seen) q) (λ k. refl)
-            ; begun = ap (λ (z : State). z .at) q
-            })
-          (λ f.
-            let big : s .order .pairs - s .bottom < length cs = leb-false _ _ f in
-            let t : leb (s .bottom + length cs) (s .order .pairs) ≡ false = lt-leb (s .bottom + length cs) (s .order .pairs) (omega arith) in
-            refused-reacted s r a b (bottom l cs) (s .order .line) Sequence a' b (p .is ∙ simp (e, f)) (rw m (simp (e, bottoms, t))) (λ k. refl)))
+        (λ f.
+        let small : length cs ≤ s .order .pairs - s .bottom = leb-true _ _ f in
+        let t : leb (s .bottom + length cs) (s .order .pairs) ≡ true = le-leb (s .bottom + length cs) (s .order .pairs) (omega arith) in
+        let q : r ≡ filling s (s .bottom + length cs) (s .top) = p .is ∙ simp (e, f) in
+        let j : take (s .bottom + length cs) a' ≡ take (s .bottom) a ++ cs = joined a a' (s .bottom) text cs la (omega arith) c long (p .put (eqb-true _ _ e) small) in
+        let g : react (seenBy s) (modeOf s a b) (bottom l cs) ≡ record { out = []; to = inside (s .order) (take (s .bottom) a ++ cs) (take (s .top) b) } = rw m (simp (e, bottoms, t)) in
+        let still : isHeld (filling s (s .bottom + length cs) (s .top)) ≡ true = unheld (filling s (s .bottom + length cs) (s .top)) (omega arith) (k .top) (k .few) in
+        record {
+          out = ap (λ (z : State). pending z a' b) q ∙ quiet-none Inside (s .order) (s .bottom + length cs) (s .top) (s .seen) a' b ∙ ap (λ (z : Reaction). z .out) (sym g);
+          to = ap (λ (z : State). modeOf z a' b) q ∙ mode-inside (filling s (s .bottom + length cs) (s .top)) a' b refl still ∙ ap (λ (z : List ℤ). inside (s .order) z (take (s .top) b)) j ∙ ap (λ (z : Reaction). z .to) (sym g);
+          seen = seen-other s r (bottom l cs) (ap (λ (z : State). z .seen) q) (λ k. refl);
+          begun = ap (λ (z : State). z .at) q;
+        })
+        (λ f.
+        let big : s .order .pairs - s .bottom < length cs = leb-false _ _ f in
+        let t : leb (s .bottom + length cs) (s .order .pairs) ≡ false = lt-leb (s .bottom + length cs) (s .order .pairs) (omega arith) in
+        refused-reacted s r a b (bottom l cs) (s .order .line) Sequence a' b (p .is ∙ simp (e, f)) (rw m (simp (e, bottoms, t))) (λ k. refl)))
         (λ e. refused-reacted s r a b (bottom l cs) (s .order .line) Sequence a' b (p .is ∙ simp e) (rw m (simp e)) (λ k. refl))
 
     pub inside-top : (r : State) (b' : List ℤ) → TopPut s text a b l (length cs) r b' → Reacted s a b (top l cs) r a b'
@@ -334,42 +334,42 @@ module _ (s : State) (a b : List ℤ) (here : s .phase ≡ Inside) (ok : isHeld 
         let m : modeOf s a b ≡ inside (s .order) (take (s .bottom) a) (take (s .top) b) = mode-inside s a b here ok in
         either (eqb l (s .order .line))
         (λ e. either (eqb (s .bottom) (s .order .pairs))
-          (λ d.
-            let full : s .bottom ≡ s .order .pairs = eqb-true _ _ d in
-            either (leb (length cs) (s .order .pairs - s .top))
-            (λ f.
-              let small : length cs ≤ s .order .pairs - s .top = leb-true _ _ f in
-              let t : leb (s .top + length cs) (s .order .pairs) ≡ true = le-leb (s .top + length cs) (s .order .pairs) (omega arith) in
-              let j : take (s .top + length cs) b' ≡ take (s .top) b ++ cs = joined b b' (s .top) text cs lb (omega arith) c long (p .put (eqb-true _ _ e) full small) in
-              either (eqb (s .top + length cs) (s .order .pairs))
-              (λ z.
-                let q : r ≡ complete s N = p .is ∙ simp (e, d, f, z) in
-                let sum : s .top + length cs ≡ s .order .pairs = eqb-true _ _ z in
-                let all : take (s .order .pairs) b' ≡ take (s .top) b ++ cs = ap (λ (n : ℕ). take n b') (sym sum) ∙ j in
-                let low : take (s .order .pairs) a ≡ take (s .bottom) a = ap (λ (n : ℕ). take n a) (sym full) in
-                let g : react (seenBy s) (modeOf s a b) (top l cs) ≡ record { out = lineText (s .order .line) N (take (s .order .pairs) a) (take (s .order .pairs) b'); to = ready } =
-                    rw m (simp (e, bottoms, d, tops, t, z) (simp (all, low))) in
-                record
-                { out = ap (λ (z : State). pending z a b') q ∙ complete-text s (s .order .separation) (s .order .offset) a b' (k .few) ∙ ap (λ (z : Reaction). z .out) (sym g)
-                ; to = ap (λ (z : State). modeOf z a b') q ∙ mode-ready (complete s N) a b' refl ∙ ap (λ (z : Reaction). z .to) (sym g)
-                ; seen = seen-other s r (top l cs) (ap (λ (z : State). z .seen) q) (λ k. refl)
-                ; begun = ap (λ (z : State). z .at) q
-                })
-              (λ z.
-                let q : r ≡ filling s (s .bottom) (s .top + length cs) = p .is ∙ simp (e, d, f, z) in
-                let g : react (seenBy s) (modeOf s a b) (top l cs) ≡ record { out = []; to = inside (s .order) (take (s .bottom) a) (take (s .top) b ++ cs) } = rw m (simp (e, bottoms, d, tops, t, z)) in
-                let still : isHeld (filling s (s .bottom) (s .top + length cs)) ≡ true = unheld (filling s (s .bottom) (s .top + length cs)) (k .bottom) (omega arith) (k .few) in
-                record
-                { out = ap (λ (z : State). pending z a b') q ∙ quiet-none Inside (s .order) (s .bottom) (s .top + length cs) (s .seen) a b' ∙ ap (λ (z : Reaction). z .out) (sym g)
-                ; to = ap (λ (z : State). modeOf z a b') q ∙ mode-inside (filling s (s .bottom) (s .top + length cs)) a b' refl still ∙ ap (λ (z : List ℤ). inside (s .order) (take (s .bottom) a) z) j ∙ ap (λ (z : Reaction). z .to) (sym g)
-                ; seen = seen-other s r (top l cs) (ap (λ (z : State). z .seen) q) (λ k. refl)
-                ; begun = ap (λ (z : State). z .at) q
-                }))
-            (λ f.
-              let big : s .order .pairs - s .top < length cs = leb-false _ _ f in
-              let t : leb (s .top + length cs) (s .order .pairs) ≡ false = lt-leb (s .top + length cs) (s .order .pairs) (omega arith) in
-              refused-reacted s r a b (top l cs) (s .order .line) Sequence a b' (p .is ∙ simp (e, d, f)) (rw m (simp (e, bottoms, d, tops, t))) (λ k. refl)))
-          (λ d. refused-reacted s r a b (top l cs) (s .order .line) Sequence a b' (p .is ∙ simp (e, d)) (rw m (simp (e, bottoms, d))) (λ k. refl)))
+        (λ d.
+        let full : s .bottom ≡ s .order .pairs = eqb-true _ _ d in
+        either (leb (length cs) (s .order .pairs - s .top))
+        (λ f.
+        let small : length cs ≤ s .order .pairs - s .top = leb-true _ _ f in
+        let t : leb (s .top + length cs) (s .order .pairs) ≡ true = le-leb (s .top + length cs) (s .order .pairs) (omega arith) in
+        let j : take (s .top + length cs) b' ≡ take (s .top) b ++ cs = joined b b' (s .top) text cs lb (omega arith) c long (p .put (eqb-true _ _ e) full small) in
+        either (eqb (s .top + length cs) (s .order .pairs))
+        (λ z.
+        let q : r ≡ complete s N = p .is ∙ simp (e, d, f, z) in
+        let sum : s .top + length cs ≡ s .order .pairs = eqb-true _ _ z in
+        let all : take (s .order .pairs) b' ≡ take (s .top) b ++ cs = ap (λ (n : ℕ). take n b') (sym sum) ∙ j in
+        let low : take (s .order .pairs) a ≡ take (s .bottom) a = ap (λ (n : ℕ). take n a) (sym full) in
+        let g : react (seenBy s) (modeOf s a b) (top l cs) ≡ record { out = lineText (s .order .line) N (take (s .order .pairs) a) (take (s .order .pairs) b'); to = ready } =
+        rw m (simp (e, bottoms, d, tops, t, z) (simp (all, low))) in
+        record {
+          out = ap (λ (z : State). pending z a b') q ∙ complete-text s (s .order .separation) (s .order .offset) a b' (k .few) ∙ ap (λ (z : Reaction). z .out) (sym g);
+          to = ap (λ (z : State). modeOf z a b') q ∙ mode-ready (complete s N) a b' refl ∙ ap (λ (z : Reaction). z .to) (sym g);
+          seen = seen-other s r (top l cs) (ap (λ (z : State). z .seen) q) (λ k. refl);
+          begun = ap (λ (z : State). z .at) q;
+        })
+        (λ z.
+        let q : r ≡ filling s (s .bottom) (s .top + length cs) = p .is ∙ simp (e, d, f, z) in
+        let g : react (seenBy s) (modeOf s a b) (top l cs) ≡ record { out = []; to = inside (s .order) (take (s .bottom) a) (take (s .top) b ++ cs) } = rw m (simp (e, bottoms, d, tops, t, z)) in
+        let still : isHeld (filling s (s .bottom) (s .top + length cs)) ≡ true = unheld (filling s (s .bottom) (s .top + length cs)) (k .bottom) (omega arith) (k .few) in
+        record {
+          out = ap (λ (z : State). pending z a b') q ∙ quiet-none Inside (s .order) (s .bottom) (s .top + length cs) (s .seen) a b' ∙ ap (λ (z : Reaction). z .out) (sym g);
+          to = ap (λ (z : State). modeOf z a b') q ∙ mode-inside (filling s (s .bottom) (s .top + length cs)) a b' refl still ∙ ap (λ (z : List ℤ). inside (s .order) (take (s .bottom) a) z) j ∙ ap (λ (z : Reaction). z .to) (sym g);
+          seen = seen-other s r (top l cs) (ap (λ (z : State). z .seen) q) (λ k. refl);
+          begun = ap (λ (z : State). z .at) q;
+        }))
+        (λ f.
+        let big : s .order .pairs - s .top < length cs = leb-false _ _ f in
+        let t : leb (s .top + length cs) (s .order .pairs) ≡ false = lt-leb (s .top + length cs) (s .order .pairs) (omega arith) in
+        refused-reacted s r a b (top l cs) (s .order .line) Sequence a b' (p .is ∙ simp (e, d, f)) (rw m (simp (e, bottoms, d, tops, t))) (λ k. refl)))
+        (λ d. refused-reacted s r a b (top l cs) (s .order .line) Sequence a b' (p .is ∙ simp (e, d)) (rw m (simp (e, bottoms, d))) (λ k. refl)))
         (λ e. refused-reacted s r a b (top l cs) (s .order .line) Sequence a b' (p .is ∙ simp e) (rw m (simp e)) (λ k. refl))
 
 -- ---- what was read says which frame it is
@@ -421,10 +421,12 @@ never l = let e : 0 / 2 ^ l % 2 ≡ 0 = ap (λ (n : ℕ). n % 2) (zero-div (2 ^ 
 pub fresh-owes : (r : State) → r ≡ quietBy Ready noOrder 0 0 0 → Fresh r
 unfolding owes later modeOf answers
 fresh-owes r e =
-    rw e (record { owed = λ line a b sheet.
-        ap (λ (l : List ℕ). l ++ machine (hasLine 0) ready (framesFrom [] sheet)) (quiet-none Ready noOrder 0 0 0 a b)
-        ∙ machine-agree (hasLine 0) (λ l. false) none ready (framesFrom [] sheet)
-        ∙ ap (machine (λ l. false) ready) (sheet-frames sheet) })
+    rw e (record {
+      owed = λ line a b sheet.
+          ap (λ (l : List ℕ). l ++ machine (hasLine 0) ready (framesFrom [] sheet)) (quiet-none Ready noOrder 0 0 0 a b)
+          ∙ machine-agree (hasLine 0) (λ l. false) none ready (framesFrom [] sheet)
+          ∙ ap (machine (λ l. false) ready) (sheet-frames sheet);
+    })
   where
     none : Agree (hasLine 0) (λ l. false)
     none l h = never l
@@ -446,12 +448,12 @@ unfolding isBusy pending leftText routeLeft
 not-busy s a b e =
     either (s .cut) (λ c. absurd (true≢false (sym (simp c) ∙ e)))
     (λ c. either (s .due) (λ d. absurd (true≢false (sym (simp (c, d)) ∙ e)))
-      (λ d. either (leb (s .wires) 2048)
-        (λ w.
-          let u : s .wires ≤ s .wire = ltb-false (s .wire) (s .wires) (simp (c, d, w) at e) in
-          let n : length (take (s .wires) a) ≤ s .wire = simp length-take (omega arith) in
-          simp (c, d, w, le-ltb _ _ n, always (isAsked (take (s .wires) a) (take (s .wires) b) (s .answer .separation) (s .answer .lowest))))
-        (λ w. simp (c, d, w))))
+    (λ d. either (leb (s .wires) 2048)
+    (λ w.
+    let u : s .wires ≤ s .wire = ltb-false (s .wire) (s .wires) (simp (c, d, w) at e) in
+    let n : length (take (s .wires) a) ≤ s .wire = simp length-take (omega arith) in
+    simp (c, d, w, le-ltb _ _ n, always (isAsked (take (s .wires) a) (take (s .wires) b) (s .answer .separation) (s .answer .lowest))))
+    (λ w. simp (c, d, w))))
 
 -- the state after the end, and what is owed there
 module _ (s : State) (line : List ℕ) (a b : List ℤ) (idle : isBusy s ≡ false) where
@@ -462,10 +464,10 @@ module _ (s : State) (line : List ℕ) (a b : List ℤ) (idle : isBusy s ≡ fal
   ends : (r : State) (m : Mode) → modeOf s a b ≡ m → r .at ≡ 0 → modeOf r a b ≡ skipping → pending r a b ≡ machine (seenBy s) m (lastFrame (take (s .at) line)) → Finished s line a b r
   unfolding owes later framesFrom lastFrame machine atEnd
   ends r m e at to p =
-      record
-      { owed = private-owed m e ∙ sym p ∙ sym (append-nil (pending r a b)) ∙ ap (λ (l : List ℕ). pending r a b ++ l) (sym (simp (at, to)))
-      ; ended = λ h. simp (at, to)
-      ; busy = λ h. absurd (true≢false (sym h ∙ idle))
+      record {
+        owed = private-owed m e ∙ sym p ∙ sym (append-nil (pending r a b)) ∙ ap (λ (l : List ℕ). pending r a b ++ l) (sym (simp (at, to)));
+        ended = λ h. simp (at, to);
+        busy = λ h. absurd (true≢false (sym h ∙ idle));
       }
 
   pub end-skips : (r : State) (m : Mode) → modeOf s a b ≡ m → r ≡ skips (s .seen) → machine (seenBy s) m (lastFrame (take (s .at) line)) ≡ [] → Finished s line a b r
@@ -532,11 +534,11 @@ module _ (W : List ℕ → List ℕ) (st : State) (line : List ℕ) (a b : List 
       let m : Mode = modeOf (moved st at') a b in
       let none : pending (moved st at') a b ≡ [] = not-busy (moved st at') a b (still idle) in
       let first : W rest ≡ react (seenBy st) m x .out ++ machine (noted (seenBy st) x) (react (seenBy st) m x .to) (framesFrom [] R) =
-          kept-owes rest
-          ∙ ap (λ (p : List ℕ). p ++ machine (seenBy st) m (framesFrom (take at' line') (drop i' piece ++ rest))) none
-          ∙ ap (λ (p : List ℕ). machine (seenBy st) m (framesFrom (take at' line') (p ++ rest))) d in
+      kept-owes rest
+      ∙ ap (λ (p : List ℕ). p ++ machine (seenBy st) m (framesFrom (take at' line') (drop i' piece ++ rest))) none
+      ∙ ap (λ (p : List ℕ). machine (seenBy st) m (framesFrom (take at' line') (p ++ rest))) d in
       let same : machine (noted (seenBy st) x) (modeOf r a' b') (framesFrom [] R) ≡ machine (seenBy r) (modeOf r a' b') (framesFrom [] R) =
-          machine-agree (noted (seenBy st) x) (seenBy r) (λ l g. sym (f .seen l g)) (modeOf r a' b') (framesFrom [] R) in
+      machine-agree (noted (seenBy st) x) (seenBy r) (λ l g. sym (f .seen l g)) (modeOf r a' b') (framesFrom [] R) in
       let at0 : take (r .at) line' ≡ [] = ap (λ (n : ℕ). take n line') (f .begun) in
       first
       ∙ ap (λ (p : List ℕ). p ++ machine (noted (seenBy st) x) (react (seenBy st) m x .to) (framesFrom [] R)) (sym (f .out))

@@ -152,12 +152,13 @@ fn give_route(a: &[i32], b: &[i32], s: State, out: &mut [u8], at: usize) -> Givi
     ensures { λ r. ⌜ Given s (now (a .entry)) (now (b .entry)) (now (out .entry)) at (r .s) (r .n) (now (out .exit)) ⌝ }
 {
     let n = s.wires;
+    let k = s.answer;
     let r = route_out(
         &a[..n],
         &b[..n],
-        s.answer.line,
-        s.answer.separation,
-        s.answer.lowest,
+        k.line,
+        k.separation,
+        k.lowest,
         s.wire,
         s.track,
         out,

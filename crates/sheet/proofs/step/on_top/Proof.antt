@@ -36,12 +36,12 @@ unfolding topTo
 returns c =
     let o = c .before .before .before .before .before .before .before .before .before .before .before .before .before .before .before .before .before .args .s .order in
     let e = toZ-ofZ w32 (o .offset) (record { sfits = c .before .before .struct-told .given .1 .1 .1 .0 .1 }) in
-    record
-    { is =
-      c .done .ensures
-      ∙ ap (complete (c .before .before .before .before .before .before .before .before .before .before .before .before .before .before .before .before .before .args .s)) (c .before .plan-first .ensures ∙ ap (λ (z : ℤ). planned (o .separation) z (take (o .pairs) (c .before .before .before .before .before .before .before .before .before .before .before .before .before .before .before .before .before .args .a .now)) (take (o .pairs) (c .before .before .before .before .before .before .before .columns .last .1 .1 .0))) e)
-      ∙ sym (simp (eq-eqb _ _ (c .before .before .before .before .before .before .before .before .before .before .before .before .before .if1 .taken), eq-eqb _ _ (c .before .before .before .before .before .before .before .before .before .before .before .if2 .taken), le-leb _ _ (c .before .before .before .before .before .before .before .before .before .if3 .taken), eq-eqb _ _ (c .before .before .before .before .if4 .taken)))
-    ; put = λ x y z. c .before .before .before .before .before .before .before .columns .ensures
+    record {
+      is =
+          c .done .ensures
+          ∙ ap (complete (c .before .before .before .before .before .before .before .before .before .before .before .before .before .before .before .before .before .args .s)) (c .before .plan-first .ensures ∙ ap (λ (z : ℤ). planned (o .separation) z (take (o .pairs) (c .before .before .before .before .before .before .before .before .before .before .before .before .before .before .before .before .before .args .a .now)) (take (o .pairs) (c .before .before .before .before .before .before .before .columns .last .1 .1 .0))) e)
+          ∙ sym (simp (eq-eqb _ _ (c .before .before .before .before .before .before .before .before .before .before .before .before .before .if1 .taken), eq-eqb _ _ (c .before .before .before .before .before .before .before .before .before .before .before .if2 .taken), le-leb _ _ (c .before .before .before .before .before .before .before .before .before .if3 .taken), eq-eqb _ _ (c .before .before .before .before .if4 .taken)));
+      put = λ x y z. c .before .before .before .before .before .before .before .columns .ensures;
     }
 
 add-quiet : tie.Need-add-quiet
