@@ -1,4 +1,4 @@
--- The scan for the least separation (003, theorem 3): after i pairs it holds the least separation of the first i pairs. And what `least_at` promises.
+-- The least separation (003, theorem 3): what the scan of the definition finds, what the code's climb finds, and what `least_at` promises.
 use mathlib.Core.Path.{_≡_, refl, sym, ap, _∙_}
 use mathlib.Core.Bool.{Bool, true, false, cond}
 use mathlib.Core.List.{List}
@@ -11,25 +11,26 @@ use lib.ListN.{length}
 use lib.IntN.{ℤ}
 use lib.Signed.{_≤ℤ_, _<ℤ_, ltZ}
 use Rattle.whole.proofs.Arith.{up, down, arithℤ}
-use Rattle.whole.proofs.Order.{true-lt, false-lt}
+use Rattle.whole.proofs.Order.{true-lt, false-lt, lt-false}
 use Rattle.wiring.specs.Wiring.{HasWiring}
 use Rattle.wiring.specs.Fit.{leanOf, Steady, lowEnd, highEnd, Fits, TooRight, TooLeft}
 use Rattle.wiring.proofs.Rule.{lean-steady, fits-above, ends-next, right-breaks, left-breaks}
 use Rattle.jumper.specs.Refusals.{sideNumber}
 use Rattle.jumper.specs.Asked.{checkOffset, AcceptedShift, Asked}
 use Rattle.jumper.specs.declared.refusal.Side.{Side}
+use Rattle.jumper.specs.declared.refusal.Side.the-variants.{Right, Left}
 use Rattle.jumper.specs.declared.refusal.Refusal.{Refusal}
 use Rattle.jumper.specs.declared.rows.Checked.{Checked}
 use Rattle.jumper.specs.declared.rows.Checked.the-variants.{Accepted, Refused}
 use Rattle.jumper.proofs.Accepted.{numbered, refused-not}
 use Rattle.jumper.proofs.Checks.{accepted-shift, shift-accepted, early-shift}
-use Rattle.fit.specs.Misfit.{tooRight, tooLeft, misfitOf, Witness}
+use Rattle.fit.specs.Misfit.{tooRight, tooLeft, rightward, misfitFrom, misfitOf, Witness}
 use Rattle.fit.specs.Least.{leastNumbers, breaksAt, leastOf, shown, leastAnswer, LeastAnswer}
 use Rattle.fit.specs.declared.misfit.Misfit.{Misfit}
 use Rattle.fit.specs.declared.misfit.Misfit.the-variants.{None, At}
 use Rattle.fit.specs.declared.least.Least.{Least}
 use Rattle.fit.specs.declared.least.Least.the-variants.{Straight, Tracks, Refused as NoLeast}
-use Rattle.fit.proofs.Misfits.{none-fits, at-witness, wiring-exactly}
+use Rattle.fit.proofs.Misfits.{Free, not-here, none-fits, at-witness, witness-inside, witness-breaks, free-before, wiring-exactly}
 
 -- pair i, by the test
 breaks : (x y : ℕ → ℤ) (s : ℕ) (d : ℤ) (n i : ℕ) → i + s < n → breaksAt x y s d i ≡ true → TooRight n s x y d i ⊎ TooLeft n s x y d i
@@ -92,19 +93,14 @@ unfolding leastOf
 leastly zero x y d sx sy = record { within = omega arith; fits = record { low = λ i h. absurd (omega arith); high = λ i h. absurd (omega arith) }; least = λ t h f. absurd (omega arith) }
 leastly (suc n) x y d sx sy = one-more n x y d (leastOf x y d n) sx sy (leastly n x y d (steady-fewer sx) (steady-fewer sy)) (breaksAt x y (leastOf x y d n) d (n - leastOf x y d n)) refl
 
--- the scan's step, as the code takes it
-module _ (x y : ℕ → ℤ) (d : ℤ) (i s : ℕ) (e : s ≡ leastOf x y d i) where
-  pub scan-broken : breaksAt x y s d (i - s) ≡ true → s + 1 ≡ leastOf x y d (i + 1)
-  unfolding leastOf
-  scan-broken h = rw (add-one i, add-one s, ← e, h)
-
-  pub scan-held : breaksAt x y s d (i - s) ≡ false → s ≡ leastOf x y d (i + 1)
-  unfolding leastOf
-  scan-held h = rw (add-one i, ← e, h)
-
-pub scan-start : (x y : ℕ → ℤ) (d : ℤ) → leastOf x y d 0 ≡ 0
-unfolding leastOf
-scan-start x y d = refl
+-- there is one least separation
+pub least-once : {n : ℕ} {x y : ℕ → ℤ} {d : ℤ} {s t : ℕ} → Leastly n x y d s → Leastly n x y d t → s ≡ t
+least-once {n} {x} {y} {d} {s} {t} l m = go (decLt s t) (decLt t s)
+  where
+    go : Dec (s < t) → Dec (t < s) → s ≡ t
+    go (yes h) k = absurd (m .least s h (l .fits))
+    go (no h) (yes k) = absurd (l .least t k (m .fits))
+    go (no h) (no k) = omega arith
 
 -- WHAT `least_at` PROMISES, from its answer
 module _ (a b : List ℤ) (d : ℤ) where
@@ -128,14 +124,6 @@ module _ (a b : List ℤ) (d : ℤ) where
           least = λ z t h. absurd (omega arith);
           witness = λ z h. absurd (omega arith);
         }
-
-    -- one track fewer than the least is still a separation that can be asked
-    pub fewer-tracks : Asked a b (s - 1) d
-    fewer-tracks = record { rows = k .rows; tracks = omega (arith, l .within, k .rows .few); offset = k .offset }
-
-    -- at one track fewer there is always a witness
-    pub not-none : 0 < s → misfitOf a b (s - 1) d ≡ None → ⊥
-    not-none h e = l .least (s - 1) (omega arith) (none-fits a b (s - 1) d e)
 
     pub tracks : (i : ℕ) (side : Side) → 0 < s → misfitOf a b (s - 1) d ≡ At i side → LeastAnswer a b d (Tracks s i side)
     tracks i side h e =
@@ -163,3 +151,75 @@ module _ (a b : List ℤ) (d : ℤ) where
         least = λ z. absurd (numbered r z);
         witness = λ z. absurd (numbered r z);
       }
+
+-- THE CLIMB: the pairs before i are free at s; and where s isn't 0, pair i is the witness at one track fewer, on the right or the left
+abbrev pub sideOf : Bool → Side
+sideOf true = Right
+sideOf false = Left
+
+pub record Climbing (a b : List ℤ) (d : ℤ) (s i : ℕ) (right : Bool) : Type 0 where
+  pub below : s ≤ length a
+  pub start : i ≤ length a
+  pub here : misfitOf a b s d ≡ misfitFrom (leanOf a) (leanOf b) s d i (length a - s - i)
+  pub last : 0 < s → misfitOf a b (s - 1) d ≡ At i (sideOf right)
+
+pub climb-start : (a b : List ℤ) (d : ℤ) → Climbing a b d 0 0 true
+climb-start a b d = let e : length a - 0 - 0 ≡ length a - 0 = omega arith in record { below = omega arith; start = omega arith; here = rw e; last = λ h. absurd (omega arith) }
+
+-- free pairs are passed over
+skip : (x y : ℕ → ℤ) (s : ℕ) (d : ℤ) (n j : ℕ) → ((k : ℕ) → k < j → (k + s < n) × Free x y s d k) → misfitFrom x y s d 0 (n - s) ≡ misfitFrom x y s d j (n - s - j)
+skip x y s d n zero f = let e : n - s - 0 ≡ n - s = omega arith in rw e
+skip x y s d n (suc j) f =
+    let g = f j (omega arith) in
+    let e = not-here x y s d n j (g .0) (lt-false (highEnd x y s j) d (g .1 .high)) (lt-false d (lowEnd x y s j) (g .1 .low)) in
+    skip x y s d n j (λ k h. f k (omega arith)) ∙ rw (add-one j) at e
+
+module _ (a b : List ℤ) (d : ℤ) (k : AcceptedShift a b d) (s i : ℕ) (right : Bool) (c : Climbing a b d s i right) where
+  sx : Steady (length a) (leanOf a)
+  sx = lean-steady (k .rows .bottom .rising)
+
+  sy : Steady (length a) (leanOf b)
+  sy = rw (k .rows .equal) (lean-steady (k .rows .top .rising))
+
+  pub climb-asked : Asked a b s d
+  climb-asked = record { rows = k .rows; tracks = omega (arith, c .below, k .rows .few); offset = k .offset }
+
+  pub climb-next : (j : ℕ) (side : Side) → misfitFrom (leanOf a) (leanOf b) s d i (length a - s - i) ≡ At j side → (s < length a) × Climbing a b d (s + 1) j (rightward side)
+  climb-next j side e =
+      let m : misfitOf a b s d ≡ At j side = c .here ∙ e in
+      let w = at-witness a b s d j side m in
+      let l = witness-inside w in
+      let q : s + 1 - 1 ≡ s = omega arith in (
+        omega arith,
+        record {
+          below = omega arith;
+          start = omega arith;
+          here = skip (leanOf a) (leanOf b) (s + 1) d (length a) j (λ p h. (omega arith, freed p h (free-before a b s d j side m p h) (omega arith)));
+          last = λ h. rw (q, side-back side) m;
+        },
+      )
+    where
+      side-back : (side : Side) → sideOf (rightward side) ≡ side
+      side-back Right = refl
+      side-back Left = refl
+
+      -- free at s, free at s + 1
+      freed : (p : ℕ) → p < j → Free (leanOf a) (leanOf b) s d p → p + suc s < length a → Free (leanOf a) (leanOf b) (s + 1) d p
+      freed p h f l = let n = ends-next sx sy s p l in rw (add-one s) (record { low = omega (arithℤ, f .low, n .0); high = omega (arithℤ, f .high, n .1) })
+
+  pub climb-done : misfitFrom (leanOf a) (leanOf b) s d i (length a - s - i) ≡ None → s ≡ leastOf (leanOf a) (leanOf b) d (length a)
+  climb-done e =
+      let m : misfitOf a b s d ≡ None = c .here ∙ e in
+      least-once
+      (record {
+        within = c .below;
+        fits = none-fits a b s d m;
+        least = λ t h f. witness-breaks (at-witness a b (s - 1) d i (sideOf right) (c .last (omega arith))) (fits-above sx sy (s - 1 - t) t (s - 1) (omega arith) f);
+      })
+      (leastly (length a) (leanOf a) (leanOf b) d sx sy)
+
+  pub climb-straight : misfitFrom (leanOf a) (leanOf b) s d i (length a - s - i) ≡ None → s ≡ 0 → LeastAnswer a b d Straight
+  climb-straight e z = straight a b d k (sym (climb-done e) ∙ z)
+
+  pub climb-tracks : misfitFrom (leanOf a) (leanOf b) s d i (length a - s - i) ≡ None → 0 < s → LeastAnswer a b d (Tracks s i (sideOf right))
+  climb-tracks e h = let f = climb-done e in rw f (tracks a b d k i (sideOf right) (rw f at h) (rw f at (c .last h)))

@@ -53,9 +53,9 @@ unfolding misfitFrom
 at-end x y s d n i h = let e : n - s - i ≡ 0 = omega arith in rw e
 
 -- what it finds among the k pairs from i on
-record Free (x y : ℕ → ℤ) (s : ℕ) (d : ℤ) (j : ℕ) : Type 0 where
-  low : lowEnd x y s j ≤ℤ d
-  high : d ≤ℤ highEnd x y s j
+pub record Free (x y : ℕ → ℤ) (s : ℕ) (d : ℤ) (j : ℕ) : Type 0 where
+  pub low : lowEnd x y s j ≤ℤ d
+  pub high : d ≤ℤ highEnd x y s j
 
 abbrev Found : (x y : ℕ → ℤ) (s : ℕ) (d : ℤ) (i k : ℕ) → Misfit → Type 0
 Found x y s d i k None = (j : ℕ) → i ≤ j → j < i + k → Free x y s d j
@@ -98,6 +98,14 @@ witness-of a b s d i Left f =
 
 pub at-witness : (a b : List ℤ) (s : ℕ) (d : ℤ) (i : ℕ) (k : Side) → misfitOf a b s d ≡ At i k → Witness a b s d i (sideNumber k)
 at-witness a b s d i k e = witness-of a b s d i k (rw e at (found (leanOf a) (leanOf b) s d 0 (length a - s)))
+
+-- the pairs before it are free
+pub free-before : (a b : List ℤ) (s : ℕ) (d : ℤ) (i : ℕ) (k : Side) → misfitOf a b s d ≡ At i k → (j : ℕ) → j < i → Free (leanOf a) (leanOf b) s d j
+free-before a b s d i k e j h = go k (rw e at (found (leanOf a) (leanOf b) s d 0 (length a - s)))
+  where
+    go : (k : Side) → Found (leanOf a) (leanOf b) s d 0 (length a - s) (At i k) → Free (leanOf a) (leanOf b) s d j
+    go Right f = f .3 j (omega arith) h
+    go Left f = f .3 j (omega arith) h
 
 pub witness-breaks : {a b : List ℤ} {s : ℕ} {d : ℤ} {i k : ℕ} → Witness a b s d i k → Fits (length a) s (leanOf a) (leanOf b) d → ⊥
 witness-breaks w f = ⊎-elim (λ r. right-breaks (r .1) f) (λ l. left-breaks (l .1) f) (w .breaks)

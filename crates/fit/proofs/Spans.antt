@@ -9,11 +9,12 @@ use native.Mathlib.Nat.{eq-or-lt-of-le}
 use native.Mathlib.Omega.{arith}
 use borrow.Author.Tests.{lt-ltb, le-ltb}
 use lib.ListN.{length}
-use lib.IntN.{ℤ}
+use lib.IntN.{ℤ, pos, negℤ, _+ℤ_, _-ℤ_}
 use lib.Signed.{_≤ℤ_, ltZ}
+use Rattle.whole.specs.Pick.{largestAt, smallestAt}
 use Rattle.whole.proofs.Arith.{up, down, arithℤ}
 use Rattle.whole.proofs.Order.{true-lt, false-lt, untrue}
-use Rattle.whole.proofs.Extremes.{largest-law, smallest-law}
+use Rattle.whole.proofs.Extremes.{largest-law, smallest-law, largest-further, smallest-further}
 use Rattle.wiring.specs.Wiring.{HasWiring}
 use Rattle.wiring.specs.Fit.{leanOf, lowEnd, highEnd, Fits}
 use Rattle.wiring.proofs.Rule.{fits-past}
@@ -27,9 +28,10 @@ use Rattle.jumper.specs.declared.rows.Checked.the-variants.{Accepted, Refused}
 use Rattle.jumper.proofs.Accepted.{numbered, refused-not}
 use Rattle.jumper.proofs.Checks.{tracks-accepted, early-tracks}
 use Rattle.jumper.proofs.Spans.{range-exactly, none-fits}
-use Rattle.fit.specs.Offsets.{rangeFound, offsetsNumbers, offsetsAnswer, OffsetsAnswer}
+use Rattle.fit.specs.Offsets.{lowGap, highGap, gapsOf, rangeFound, offsetsNumbers, offsetsAnswer, OffsetsAnswer}
 use Rattle.fit.specs.declared.offsets.Offsets.{Offsets}
 use Rattle.fit.specs.declared.offsets.Offsets.the-variants.{Range, Refused as NoRange}
+use Rattle.fit.proofs.Ends.{low-is, high-is}
 use Rattle.fit.proofs.Misfits.{wiring-exactly}
 
 -- `rangeFound` by the code's tests
@@ -141,3 +143,17 @@ module _ (a b : List ℤ) (s i : ℕ) (h : s < length a) where
   high-here k e =
       let f = highEnd (leanOf a) (leanOf b) s in
       ⊎-elim (λ g. g) (λ g. absurd (omega (arithℤ, false-lt (rangeOf (length a) (leanOf a) (leanOf b) s .high) (f i) e, smallest-law f (length a - s - 1) .first i g))) (eq-or-lt-of-le k)
+
+-- the range is read from the gaps, s further on
+module _ (a b : List ℤ) (s : ℕ) where
+  pub low-of-gaps : gapsOf a b s .low +ℤ pos s ≡ rangeOf (length a) (leanOf a) (leanOf b) s .low
+  low-of-gaps =
+      let f = lowEnd (leanOf a) (leanOf b) s in
+      let n = length a - s - 1 in
+      rw (largest-further f (lowGap a b s) (pos s) (λ i. sym (low-is a b s i)) n) (low-is a b s (largestAt (lowGap a b s) n))
+
+  pub high-of-gaps : gapsOf a b s .high -ℤ pos s ≡ rangeOf (length a) (leanOf a) (leanOf b) s .high
+  high-of-gaps =
+      let f = highEnd (leanOf a) (leanOf b) s in
+      let n = length a - s - 1 in
+      rw (smallest-further f (highGap a b s) (negℤ (pos s)) (λ i. sym (high-is a b s i)) n) (high-is a b s (smallestAt (highGap a b s) n))

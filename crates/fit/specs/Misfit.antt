@@ -26,6 +26,10 @@ tooRight x y s d i = ltZ (highEnd x y s i) d
 abbrev pub tooLeft : (x y : ℕ → ℤ) (s : ℕ) (d : ℤ) (i : ℕ) → Bool
 tooLeft x y s d i = ltZ d (lowEnd x y s i)
 
+abbrev pub rightward : Side → Bool
+rightward Right = true
+rightward Left = false
+
 abbrev pub pickMisfit : Bool → Misfit → Misfit → Misfit
 pickMisfit true m k = m
 pickMisfit false m k = k

@@ -3,12 +3,13 @@ use mathlib.Core.Bool.{Bool, true, false}
 use mathlib.Core.Path.{_≡_}
 use mathlib.Core.List.{List}
 use mathlib.Core.Logic.{_↔_}
-use Prim.Native.Nat.{ℕ, _≤_, _<_}
+use Prim.Native.Nat.{ℕ, _+_, _-_, _≤_, _<_}
 use lib.Dec.{ltb}
 use lib.ListN.{length}
-use lib.IntN.{ℤ}
+use lib.IntN.{ℤ, _-ℤ_}
 use lib.Signed.{ltZ, _<ℤ_, _≤ℤ_}
-use Rattle.wiring.specs.Wiring.{HasWiring}
+use Rattle.whole.specs.Pick.{largest, smallest}
+use Rattle.wiring.specs.Wiring.{pad, HasWiring}
 use Rattle.wiring.specs.Fit.{leanOf}
 use Rattle.jumper.specs.Refusals.{refusalNumbers}
 use Rattle.jumper.specs.Asked.{checkTracks, AcceptedTracks}
@@ -26,6 +27,16 @@ use Rattle.fit.specs.declared.offsets.Offsets.the-variants.{Range, Refus
 abbrev pub offsetsNumbers : Offsets → Numbers
 offsetsNumbers (Range r) = record { refusal = 0; place = 0; second = 0; separation = 0; lowest = r .low; highest = r .high; pair = 0; side = 0; count = 0 }
 offsetsNumbers (NoRange r) = refusalNumbers r
+
+-- the differences of columns from which the ends at s are read: each low end is its gap and s more, each high end its gap less s
+abbrev pub lowGap : (a b : List ℤ) (s i : ℕ) → ℤ
+lowGap a b s i = pad a i -ℤ pad b (i + s)
+
+abbrev pub highGap : (a b : List ℤ) (s i : ℕ) → ℤ
+highGap a b s i = pad a (i + s) -ℤ pad b i
+
+abbrev pub gapsOf : (a b : List ℤ) (s : ℕ) → OffsetRange
+gapsOf a b s = record { low = largest (lowGap a b s) (length a - s - 1); high = smallest (highGap a b s) (length a - s - 1) }
 
 abbrev pub pickOffsets : Bool → Offsets → Offsets → Offsets
 pickOffsets true q r = q

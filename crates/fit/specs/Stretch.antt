@@ -2,6 +2,8 @@
 -- equal .. In every other case it is an empty part at the bottom row's start."
 use mathlib.Core.Bool.{cond}
 use mathlib.Core.List.{List, []}
+use mathlib.Core.Path.{_≡_}
+use lib.Dec.{eqb}
 use Prim.Native.Nat.{ℕ, _+_}
 use lib.ListN.{take, drop}
 use lib.IntN.{ℤ, _-ℤ_}
@@ -11,6 +13,7 @@ use Rattle.jumper.specs.declared.rows.Checked.{Checked}
 use Rattle.jumper.specs.declared.rows.Checked.the-variants.{Accepted, Refused}
 use Rattle.jumper.specs.Asked.{checkAsked}
 use Rattle.fit.specs.Misfit.{misfitOf}
+use Rattle.fit.specs.declared.stretch.Place.{Place}
 use Rattle.fit.specs.declared.misfit.Misfit.{Misfit}
 use Rattle.fit.specs.declared.misfit.Misfit.the-variants.{None, At}
 
@@ -29,3 +32,21 @@ stretchAfter Accepted (At i k) a b s = narrower a b i s
 
 abbrev pub stretchOf : (a b : List ℤ) (s : ℕ) (d : ℤ) → List ℤ
 stretchOf a b s d = stretchAfter (checkAsked a b s d) (misfitOf a b s d) a b s
+
+-- the same told by place, for callers that can't be handed a part of a row: which row (0 bottom, 1 top), from which pad, how many pads
+abbrev pub placeAfter : Checked → Misfit → (a b : List ℤ) (s : ℕ) → Place
+placeAfter (Refused r) m a b s = record { row = 0; start = 0; pads = 0 }
+placeAfter Accepted None a b s = record { row = 0; start = 0; pads = 0 }
+placeAfter Accepted (At i k) a b s = record { row = cond (leZ (span a i s) (span b i s)) 0 1; start = i; pads = s + 1 }
+
+abbrev pub placeOf : (a b : List ℤ) (s : ℕ) (d : ℤ) → Place
+placeOf a b s d = placeAfter (checkAsked a b s d) (misfitOf a b s d) a b s
+
+-- the part that a place names
+abbrev pub partAt : (a b : List ℤ) → Place → List ℤ
+partAt a b p = cond (eqb (p .row) 0) (take (p .pads) (drop (p .start) a)) (take (p .pads) (drop (p .start) b))
+
+-- What `stretch_place` promises: the part that it names is the stretch.
+pub record StretchPlace (a b : List ℤ) (s : ℕ) (d : ℤ) (r : Place) : Type 0 where
+  pub answer : r ≡ placeOf a b s d
+  pub names : partAt a b r ≡ stretchOf a b s d

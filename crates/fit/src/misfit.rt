@@ -1,10 +1,11 @@
 // The witness of a misfit, and the question whether a separation and an offset fit.
 ghost use mathlib.Core.Path.{_≡_};
-ghost use Prim.Native.Nat.{_+_, _≤_, _<_};
+ghost use Prim.Native.Nat.{_+_, _-_, _≤_, _<_};
 ghost use lib.ListN.{length};
 ghost use Rattle.wiring.specs.Fit.{leanOf};
 ghost use Rattle.jumper.specs.Asked.{Asked, AcceptedShift};
-ghost use Rattle.fit.specs.Misfit.{tooRight, tooLeft, misfitOf, FitAnswer};
+ghost use Rattle.fit.specs.Misfit.{tooRight, tooLeft, rightward, misfitFrom, misfitOf, FitAnswer};
+use crate::offsets::range_of;
 use jumper::asked::check_asked;
 use jumper::refusal::Refusal;
 use jumper::refusal::Side;
@@ -14,6 +15,15 @@ use jumper::rows::Checked;
 pub enum Misfit {
     None,
     At(usize, Side),
+}
+
+pub(crate) fn is_right(side: Side) -> bool
+    ensures { λ r. ⌜ r ≡ rightward side ⌝ }
+{
+    match side {
+        Side::Right => true,
+        Side::Left => false,
+    }
 }
 
 pub(crate) fn too_right(a: &[i32], b: &[i32], s: usize, d: i32, i: usize) -> bool
@@ -30,13 +40,13 @@ pub(crate) fn too_left(a: &[i32], b: &[i32], s: usize, d: i32, i: usize) -> bool
     b[i + s] + d < a[i] + s as i32
 }
 
-// The search for the least misfit: it serves `fit`, the witness below a least separation, and the stretch.
-pub(crate) fn first_misfit(a: &[i32], b: &[i32], s: usize, d: i32) -> Misfit
-    requires { ⌜ Asked (now a) (now b) s d ⌝ }
-    ensures { λ r. ⌜ r ≡ misfitOf (now (a .entry)) (now (b .entry)) s d ⌝ }
+// The search for the least misfit from pair i on: it serves `fit`, the least separation and its witness, and the stretch.
+pub(crate) fn misfit_from(a: &[i32], b: &[i32], s: usize, d: i32, from: usize) -> Misfit
+    requires { ⌜ Asked (now a) (now b) s d × (from ≤ length (now a)) ⌝ }
+    ensures { λ r. ⌜ r ≡ misfitFrom (leanOf (now (a .entry))) (leanOf (now (b .entry))) s d from (length (now (a .entry)) - s - from) ⌝ }
 {
     let n = a.len();
-    let mut i: usize = 0;
+    let mut i: usize = from;
     while i + s < n {
         if too_right(a, b, s, d, i) {
             return Misfit::At(i, Side::Right);
@@ -47,6 +57,25 @@ pub(crate) fn first_misfit(a: &[i32], b: &[i32], s: usize, d: i32) -> Misfit
         i += 1;
     }
     Misfit::None
+}
+
+// The least misfit: none where the offset is in the range at s, which is quick to read; else it is sought.
+pub(crate) fn first_misfit(a: &[i32], b: &[i32], s: usize, d: i32) -> Misfit
+    requires { ⌜ Asked (now a) (now b) s d ⌝ }
+    ensures { λ r. ⌜ r ≡ misfitOf (now (a .entry)) (now (b .entry)) s d ⌝ }
+{
+    if a.len() <= s {
+        return Misfit::None;
+    }
+    let r = range_of(a, b, s);
+    let low = r.low;
+    let high = r.high;
+    if low <= d {
+        if d <= high {
+            return Misfit::None;
+        }
+    }
+    misfit_from(a, b, s, d, 0)
 }
 
 // Whether a legal wiring exists at separation s and offset d: refusals 1 to 7, then NOFIT.

@@ -5,9 +5,10 @@ ghost use lib.ListN.{length};
 ghost use Rattle.wiring.specs.Fit.{leanOf, lowEnd, highEnd};
 ghost use Rattle.jumper.specs.Asked.{AcceptedTracks};
 ghost use Rattle.jumper.specs.Span.{lowestAt, highestAt, rangeOf};
-ghost use Rattle.fit.specs.Offsets.{rangeFound, OffsetsAnswer};
+ghost use Rattle.fit.specs.Offsets.{lowGap, highGap, gapsOf, offsetsNumbers, rangeFound, OffsetsAnswer};
 use jumper::asked::check_tracks;
 use jumper::range::OffsetRange;
+use jumper::refusal::Numbers;
 use jumper::refusal::Refusal;
 use jumper::rows::Checked;
 use whole::larger;
@@ -18,6 +19,27 @@ pub enum Offsets {
     Refused(Refusal),
 }
 
+impl Offsets {
+    pub fn numbers(self) -> Numbers
+        ensures { λ r. ⌜ r ≡ offsetsNumbers self ⌝ }
+    {
+        match self {
+            Offsets::Range(r) => Numbers {
+                refusal: 0,
+                place: 0,
+                second: 0,
+                separation: 0,
+                lowest: r.low,
+                highest: r.high,
+                pair: 0,
+                side: 0,
+                count: 0,
+            },
+            Offsets::Refused(r) => r.numbers(),
+        }
+    }
+}
+
 // The offsets at which a legal wiring exists at separation s: refusals 1 to 6, then NOOFFSET.
 pub fn range_at(a: &[i32], b: &[i32], s: usize) -> Offsets
     ensures { λ r. ⌜ OffsetsAnswer (now (a .entry)) (now (b .entry)) s r ⌝ }
@@ -26,6 +48,21 @@ pub fn range_at(a: &[i32], b: &[i32], s: usize) -> Offsets
         Checked::Refused(r) => Offsets::Refused(r),
         Checked::Accepted => range_found(a, b, s),
     }
+}
+
+// The two differences of columns that pair i reads. The ends that it sets are these, s further on.
+fn low_gap(a: &[i32], b: &[i32], s: usize, i: usize) -> i32
+    requires { ⌜ AcceptedTracks (now a) (now b) s × (i + s < length (now a)) ⌝ }
+    ensures { λ r. ⌜ r ≡ lowGap (now (a .entry)) (now (b .entry)) s i ⌝ }
+{
+    a[i] - b[i + s]
+}
+
+fn high_gap(a: &[i32], b: &[i32], s: usize, i: usize) -> i32
+    requires { ⌜ AcceptedTracks (now a) (now b) s × (i + s < length (now a)) ⌝ }
+    ensures { λ r. ⌜ r ≡ highGap (now (a .entry)) (now (b .entry)) s i ⌝ }
+{
+    a[i + s] - b[i]
 }
 
 fn low_end(a: &[i32], b: &[i32], s: usize, i: usize) -> i32
@@ -42,21 +79,35 @@ fn high_end(a: &[i32], b: &[i32], s: usize, i: usize) -> i32
     a[i + s] - b[i] - s as i32
 }
 
-// The largest low end and the smallest high end.
-fn range_of(a: &[i32], b: &[i32], s: usize) -> OffsetRange
+// The largest low gap and the smallest high gap.
+fn gaps_of(a: &[i32], b: &[i32], s: usize) -> OffsetRange
     requires { ⌜ AcceptedTracks (now a) (now b) s × (s < length (now a)) ⌝ }
-    ensures { λ r. ⌜ r ≡ rangeOf (length (now (a .entry))) (leanOf (now (a .entry))) (leanOf (now (b .entry))) s ⌝ }
+    ensures { λ r. ⌜ r ≡ gapsOf (now (a .entry)) (now (b .entry)) s ⌝ }
 {
     let last = a.len() - s - 1;
-    let mut low = low_end(a, b, s, 0);
-    let mut high = high_end(a, b, s, 0);
+    let mut low = low_gap(a, b, s, 0);
+    let mut high = high_gap(a, b, s, 0);
     let mut i: usize = 0;
     while i < last {
         i += 1;
-        low = larger(low, low_end(a, b, s, i));
-        high = smaller(high, high_end(a, b, s, i));
+        low = larger(low, low_gap(a, b, s, i));
+        high = smaller(high, high_gap(a, b, s, i));
     }
     OffsetRange { low, high }
+}
+
+// The range at s, for s < n. The s that every end has is added once.
+pub(crate) fn range_of(a: &[i32], b: &[i32], s: usize) -> OffsetRange
+    requires { ⌜ AcceptedTracks (now a) (now b) s × (s < length (now a)) ⌝ }
+    ensures { λ r. ⌜ r ≡ rangeOf (length (now (a .entry))) (leanOf (now (a .entry))) (leanOf (now (b .entry))) s ⌝ }
+{
+    let g = gaps_of(a, b, s);
+    let low = g.low;
+    let high = g.high;
+    OffsetRange {
+        low: low + s as i32,
+        high: high - s as i32,
+    }
 }
 
 // The first pair that sets the lowest offset. Only a refusal asks for it, so the loop above is spared the places.

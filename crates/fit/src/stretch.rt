@@ -1,9 +1,11 @@
 // The stretch at fault: the part of the caller's own row that a misfit spans.
 ghost use mathlib.Core.Path.{_≡_};
+ghost use mathlib.Core.Bool.{cond};
+ghost use lib.Signed.{leZ};
 ghost use Prim.Native.Nat.{_+_, _<_};
 ghost use lib.ListN.{length};
 ghost use Rattle.jumper.specs.Rows.{AcceptedRow, AcceptedRows};
-ghost use Rattle.fit.specs.Stretch.{span, narrower, stretchOf};
+ghost use Rattle.fit.specs.Stretch.{span, narrower, stretchOf, StretchPlace};
 use crate::misfit::Misfit;
 use crate::misfit::first_misfit;
 use jumper::asked::check_asked;
@@ -39,4 +41,51 @@ fn narrower_of<'a>(a: &'a [i32], b: &'a [i32], i: usize, s: usize) -> &'a [i32]
         return &a[i..e];
     }
     &b[i..e]
+}
+
+// Where the stretch at fault lies, for callers that can't be handed a part of a row: row 0 is the bottom row, 1 the top row.
+#[repr(C)]
+pub struct Place {
+    pub row: u8,
+    pub start: usize,
+    pub pads: usize,
+}
+
+// The stretch at fault told by its place: no pads where there is none.
+pub fn stretch_place(a: &[i32], b: &[i32], s: usize, d: i32) -> Place
+    ensures { λ r. ⌜ StretchPlace (now (a .entry)) (now (b .entry)) s d r ⌝ }
+{
+    match check_asked(a, b, s, d) {
+        Checked::Refused(_) => Place {
+            row: 0,
+            start: 0,
+            pads: 0,
+        },
+        Checked::Accepted => match first_misfit(a, b, s, d) {
+            Misfit::None => Place {
+                row: 0,
+                start: 0,
+                pads: 0,
+            },
+            Misfit::At(i, _) => narrower_place(a, b, i, s),
+        },
+    }
+}
+
+fn narrower_place(a: &[i32], b: &[i32], i: usize, s: usize) -> Place
+    requires { ⌜ AcceptedRows (now a) (now b) × (i + s < length (now a)) ⌝ }
+    ensures { λ r. ⌜ r ≡ record { row = cond (leZ (span (now (a .entry)) i s) (span (now (b .entry)) i s)) 0 1; start = i; pads = s + 1 } ⌝ }
+{
+    if span_of(a, i, s) <= span_of(b, i, s) {
+        return Place {
+            row: 0,
+            start: i,
+            pads: s + 1,
+        };
+    }
+    Place {
+        row: 1,
+        start: i,
+        pads: s + 1,
+    }
 }

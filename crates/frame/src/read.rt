@@ -14,7 +14,7 @@ use crate::number::signed;
 pub struct Order {
     pub line: u8,
     pub pairs: usize,
-    pub separation: usize,
+    pub separation: u32,
     pub offset: i32,
 }
 
@@ -53,7 +53,7 @@ fn header(text: &[u8]) -> Said
     if text.len() == 22 {
         let line = byte_at(text, 1);
         let pairs = two_at(text, 2);
-        let separation = two_at(text, 4);
+        let separation = two_at(text, 4) as u32;
         let offset = four_at(text, 6);
         return Said::Header(Order {
             line,

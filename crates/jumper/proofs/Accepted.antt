@@ -3,7 +3,7 @@ use mathlib.Core.Path.{_≡_, refl, sym, ap, subst, _∙_}
 use mathlib.Core.Bool.{Bool, true, false}
 use mathlib.Core.List.{List, [], _∷_}
 use mathlib.Core.Logic.{_↔_}
-use Prim.Native.Nat.{ℕ, zero, suc, _+_, _≤_, _<_}
+use Prim.Native.Nat.{ℕ, zero, suc, _+_, _-_, _≤_, _<_}
 use native.Mathlib.Numerals.{add-one}
 use native.Mathlib.Omega.{arith}
 use borrow.Author.Tests.{eqb-true, eqb-false, eq-eqb, ne-eqb, ltb-false, le-ltb}
@@ -16,6 +16,7 @@ use Rattle.whole.proofs.Order.{false-lt, lt-false, false-le, le-false}
 use Rattle.whole.proofs.Machine.{abs-of}
 use Rattle.wiring.specs.Wiring.{pad}
 use Rattle.wiring.specs.Fit.{Rising}
+use Rattle.wiring.proofs.Rule.{rising-steady}
 use Rattle.jumper.specs.Limits.{maxPairs, firstColumn, lastColumn, AcceptedColumn, AcceptedOffset}
 use Rattle.jumper.specs.Refusals.{refusalNumbers}
 use Rattle.jumper.specs.Rows.{AcceptedRow, AcceptedRows, checkedNumbers, pick, orElse, faultAfter, rowFault, checkRows, RowCheck}
@@ -109,8 +110,16 @@ of-row p k (x ∷ xs) h r =
     rw (lt-false x firstColumn (c .low), lt-false lastColumn x (c .high), le-false x p (h (omega arith)))
     (of-row x (k + 1) xs (λ g. r .rising 0 (omega arith)) (tail-row r))
 
-of-rowFault : (k : ℕ) (xs : List ℤ) → AcceptedRow xs → rowFault k xs ≡ Accepted
+pub of-rowFault : (k : ℕ) (xs : List ℤ) → AcceptedRow xs → rowFault k xs ≡ Accepted
 of-rowFault k xs r = of-row (firstColumn -ℤ pos 1) k xs (λ h. let c = r .columns 0 h in omega (arithℤ, c .low)) r
+
+-- a rising row is in range where its two ends are
+pub sound-row : (a : List ℤ) → 0 < length a → Rising (length a) (pad a) → firstColumn ≤ℤ pad a 0 → pad a (length a - 1) ≤ℤ lastColumn → AcceptedRow a
+sound-row a some r low high =
+    record {
+      columns = λ k h. record { low = omega (arithℤ, rising-steady r 0 k (omega arith) h); high = omega (arithℤ, rising-steady r k (length a - 1) (omega arith) (omega arith)) };
+      rising = r;
+    }
 
 -- THE ROW CHECK: no refusal exactly for accepted rows
 pub rows-of : (a b : List ℤ) → checkRows a b ≡ Accepted → AcceptedRows a b

@@ -32,6 +32,7 @@ pub enum Refusal {
 }
 
 // All the result numbers of an answer. What an answer doesn't speak of is 0.
+#[repr(C)]
 pub struct Numbers {
     pub refusal: u8,
     pub place: usize,
@@ -55,8 +56,8 @@ impl Side {
     }
 }
 
-// The numbers of a refusal: its own, and those that it carries.
-fn carrying(refusal: u8, place: usize, second: usize, pair: usize, side: u8) -> Numbers
+// The numbers of a refusal: its own, and those that it carries. With 0 for each, those of an answer that tells nothing.
+pub fn carrying(refusal: u8, place: usize, second: usize, pair: usize, side: u8) -> Numbers
     ensures { λ r. ⌜ r ≡ refusedWith refusal place second pair side ⌝ }
 {
     Numbers {

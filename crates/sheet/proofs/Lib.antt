@@ -1,6 +1,5 @@
 mod Lines
 mod Noted
-mod Planned
 mod Steps
 mod Routes
 mod Gives

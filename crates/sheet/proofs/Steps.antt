@@ -33,7 +33,7 @@ use Rattle.frame.specs.declared.read.Said.{Said}
 use Rattle.frame.specs.declared.read.Said.the-variants.{Bad, Header, Bottom, Top}
 use Rattle.frame.specs.declared.write.Answer.{Answer}
 use Rattle.sheet.specs.Route.{wireText, wiresText}
-use Rattle.sheet.specs.Planned.{planned}
+use Rattle.sheet.specs.Planned.{planned, PlanTold}
 use Rattle.sheet.specs.Machine.{Mode, ready, inside, skipping, Reaction, shown, refusalText, routeText, lineText, opens, fillsBottom, fillsTop, react, noted, atEnd, machine, answers}
 use Rattle.sheet.specs.Steps.{hasLine, withLine, noOrder, noAnswer, quietBy, owingBy, skips, refusing, headed, heading, cutOff, complete, filling, isHeld, readyTo, skippingTo, bottomTo, BottomPut, topTo, TopPut}
 use Rattle.sheet.specs.Owes.{modeBy, modeOf, seenBy, framesFrom, lastFrame, routeLeft, isAsked, leftText, pending, later, owes, isBusy, Fresh, Reacted, TakenIn, Kept, Finished}
@@ -42,7 +42,6 @@ use Rattle.sheet.specs.declared.state.Phase.the-variants.{Ready, Inside,
 use Rattle.sheet.specs.declared.state.State.{State}
 use Rattle.sheet.proofs.Lines.{either, sheet-frames}
 use Rattle.sheet.proofs.Noted.{with-line}
-use Rattle.sheet.proofs.Planned.{planned-asked}
 
 -- ---- the machine asks of `seen` only numbers below 64
 
@@ -115,15 +114,16 @@ asked-true : (a b : List ℤ) (s : ℕ) (d : ℤ) → Asked a b s d → isAsked 
 asked-true a b s d h = eq-eqb _ _ (number-of (checkAsked a b s d) (asked-accepted a b s d h))
 
 complete-text : (s : State) (t : ℕ) (d : ℤ) (a b : List ℤ) → s .order .pairs ≤ 2048
+    → PlanTold t d (take (s .order .pairs) a) (take (s .order .pairs) b) (planned t d (take (s .order .pairs) a) (take (s .order .pairs) b))
     → pending (complete s (planned t d (take (s .order .pairs) a) (take (s .order .pairs) b))) a b
     ≡ lineText (s .order .line) (planned t d (take (s .order .pairs) a) (take (s .order .pairs) b)) (take (s .order .pairs) a) (take (s .order .pairs) b)
 unfolding pending leftText lineText
-complete-text s t d a b small =
+complete-text s t d a b small told =
     let A : List ℤ = take (s .order .pairs) a in
     let B : List ℤ = take (s .order .pairs) b in
     either (eqb (planned t d A B .refusal) 0)
     (λ e.
-    let q = asked-true A B (planned t d A B .separation) (planned t d A B .lowest) (planned-asked t d A B (eqb-true _ _ e)) in
+    let q = asked-true A B (planned t d A B .separation) (planned t d A B .lowest) (told .asked (eqb-true _ _ e)) in
     simp (e, le-leb _ _ small, q, whole-route (s .order .line) (planned t d A B .separation) (planned t d A B .lowest) A B))
     (λ e. simp e)
 
@@ -350,7 +350,7 @@ module _ (s : State) (a b : List ℤ) (here : s .phase ≡ Inside) (ok : isHeld 
         let g : react (seenBy s) (modeOf s a b) (top l cs) ≡ record { out = lineText (s .order .line) N (take (s .order .pairs) a) (take (s .order .pairs) b'); to = ready } =
         rw m (simp (e, bottoms, d, tops, t, z) (simp (all, low))) in
         record {
-          out = ap (λ (z : State). pending z a b') q ∙ complete-text s (s .order .separation) (s .order .offset) a b' (k .few) ∙ ap (λ (z : Reaction). z .out) (sym g);
+          out = ap (λ (z : State). pending z a b') q ∙ complete-text s (s .order .separation) (s .order .offset) a b' (k .few) (p .asked (eqb-true _ _ e) full small sum) ∙ ap (λ (z : Reaction). z .out) (sym g);
           to = ap (λ (z : State). modeOf z a b') q ∙ mode-ready (complete s N) a b' refl ∙ ap (λ (z : Reaction). z .to) (sym g);
           seen = seen-other s r (top l cs) (ap (λ (z : State). z .seen) q) (λ k. refl);
           begun = ap (λ (z : State). z .at) q;

@@ -17,7 +17,7 @@ use Rattle.frame.specs.declared.read.Said.{Said}
 use Rattle.frame.specs.declared.read.Said.the-variants.{Bad, Header, Bottom, Top}
 use Rattle.frame.specs.declared.write.Answer.{Answer}
 use Rattle.frame.specs.Puts.{ColumnsPut}
-use Rattle.sheet.specs.Planned.{planned}
+use Rattle.sheet.specs.Planned.{planned, PlanTold}
 use Rattle.sheet.specs.Machine.{shown}
 use Rattle.sheet.specs.declared.state.Phase.{Phase}
 use Rattle.sheet.specs.declared.state.Phase.the-variants.{Ready, Inside, Skipping}
@@ -115,3 +115,5 @@ topTo s l k answer =
 pub record TopPut (s : State) (text : List ℕ) (a b : List ℤ) (l k : ℕ) (r : State) (b' : List ℤ) : Type 0 where
   pub is : r ≡ topTo s l k (planned (s .order .separation) (s .order .offset) (take (s .order .pairs) a) (take (s .order .pairs) b'))
   pub put : l ≡ s .order .line → s .bottom ≡ s .order .pairs → k ≤ s .order .pairs - s .top → ColumnsPut text k b (s .top) b'
+  pub asked : l ≡ s .order .line → s .bottom ≡ s .order .pairs → k ≤ s .order .pairs - s .top → s .top + k ≡ s .order .pairs
+      → PlanTold (s .order .separation) (s .order .offset) (take (s .order .pairs) a) (take (s .order .pairs) b') (planned (s .order .separation) (s .order .offset) (take (s .order .pairs) a) (take (s .order .pairs) b'))

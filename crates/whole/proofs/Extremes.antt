@@ -6,11 +6,11 @@ use Prim.Native.Nat.{ℕ, zero, suc, _+_, _≤_, _<_}
 use native.Mathlib.Nat.{eq-or-lt-of-le}
 use native.Mathlib.Numerals.{add-one}
 use native.Mathlib.Omega.{arith}
-use lib.IntN.{ℤ}
+use lib.IntN.{ℤ, _+ℤ_}
 use lib.Signed.{_≤ℤ_, _<ℤ_, ltZ}
 use Rattle.whole.specs.Pick.{largerOf, smallerOf, firstBy, largestAt, smallestAt, largest, smallest}
-use Rattle.whole.proofs.Arith.{up, down, arithℤ}
-use Rattle.whole.proofs.Order.{true-lt, false-lt}
+use Rattle.whole.proofs.Arith.{up, down, arithℤ, sum}
+use Rattle.whole.proofs.Order.{true-lt, false-lt, lt-same}
 
 -- u and d are the halves of a whole number for the largest, and change places for the smallest
 module _ (u d : ℤ → ℕ) (over : ℤ → ℤ → Bool)
@@ -62,6 +62,21 @@ pub smallest-law : (f : ℕ → ℤ) (n : ℕ) → Smallest f n (smallestAt f n)
 smallest-law f n =
     let p = first-by down up (λ x y. ltZ y x) (λ x y e. omega (arithℤ, true-lt y x e)) (λ x y e. omega (arithℤ, false-lt y x e)) f n in
     record { within = p .within; bounds = λ j h. omega (arithℤ, p .bounds j h); first = λ j h. omega (arithℤ, p .first j h) }
+
+-- numbers that all stand z further on are largest and smallest at the same places
+module _ (f g : ℕ → ℤ) (z : ℤ) (e : (i : ℕ) → f i ≡ g i +ℤ z) where
+  further : (i j : ℕ) → ltZ (f i) (f j) ≡ ltZ (g i) (g j)
+  further i j = lt-same (f i) (f j) (g i) (g j) (λ h. omega (arithℤ, e i, e j, sum (g i) z, sum (g j) z)) (λ h. omega (arithℤ, e i, e j, sum (g i) z, sum (g j) z))
+
+  pub largest-further : (n : ℕ) → largestAt f n ≡ largestAt g n
+  unfolding firstBy
+  largest-further zero = refl
+  largest-further (suc n) = rw (largest-further n, further (largestAt g n) (suc n))
+
+  pub smallest-further : (n : ℕ) → smallestAt f n ≡ smallestAt g n
+  unfolding firstBy
+  smallest-further zero = refl
+  smallest-further (suc n) = rw (smallest-further n, further (suc n) (smallestAt g n))
 
 -- one place more, as a loop takes it
 pub largest-more : (f : ℕ → ℤ) (n : ℕ) → largerOf (largest f n) (f (n + 1)) ≡ largest f (n + 1)

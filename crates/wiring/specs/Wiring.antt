@@ -1,7 +1,7 @@
 -- What a legal wiring is (01, "The jumper"; 003). For every reader: all that is said to exist, or not to, is a `Legal` of this file.
 --
 -- Worked: rows 0,1 and 1,2 at offset 0. Two tracks do: 0 goes straight up to track 1, then right to 1; 1 goes right to 2 at once.
--- One track does not: bottom pad 1 would have to leave track 0 on column 1, and so would top pad 0's wire.
+-- One track does not: wire 0 would have to leave track 0 on column 1, where bottom pad 1 stands.
 use mathlib.Core.Path.{_≡_}
 use mathlib.Core.List.{List}
 use mathlib.Core.Logic.{_⊎_, _≢_}

@@ -1,84 +1,59 @@
--- The invariant: the least misfit is the least of what is left.
 use mathlib.Core.Path.{_≡_, sym, _∙_}
-use Prim.Native.Nat.{_+_, _-_, _≤_}
+use Prim.Native.Nat.{_-_}
 use native.Mathlib.Omega.{arith}
 use lib.ListN.{length}
+use mir.Facts.{toZ-ofZ}
 use mir.Syntax.{w32}
-use mir.Val.{toZ}
-use mir.ValLaws.{toZ-ofZ}
+use mir.Val.{SFits}
 use Rattle.wiring.specs.Fit.{leanOf}
-use Rattle.fit.specs.Misfit.{misfitFrom, misfitOf}
-use Rattle.fit.proofs.Misfits.{right-here, left-here, not-here, at-end}
+use Rattle.wiring.proofs.Rule.{fits-past}
+use Rattle.whole.proofs.Order.{true-le}
+use Rattle.jumper.specs.Range.{Within}
+use Rattle.jumper.specs.Span.{rangeOf}
+use Rattle.jumper.proofs.Spans.{range-exactly}
+use Rattle.fit.proofs.Misfits.{fits-none}
 use borrow.Author.Needs.{needs}
 use Rattle.fit.proofs.misfit.first_misfit.Statement.{statement}
 use Rattle.fit.proofs.misfit.first_misfit.Tie as tie
 
-abbrev Inv-loop : tie.InvT-loop
-Inv-loop a b s d n i₀ i =
-    (i ≤ n) × (n ≡ length a) × (misfitOf a b s (toZ w32 d) ≡ misfitFrom (leanOf a) (leanOf b) s (toZ w32 d) i (length a - s - i))
-
-abbrev μ-loop : tie.MeasureT-loop
-μ-loop a b s d n i₀ i = n - i
-
-loop-holds : tie.Need-loop-holds Inv-loop μ-loop
-loop-holds c =
-    let e : length (c .args .a .now) - c .args .s - 0 ≡ length (c .args .a .now) - c .args .s = omega arith in (search needs, search needs, rw e)
-
-add-loop : tie.Need-add-loop Inv-loop μ-loop
-add-loop c = search needs
-
-too-right-requires : tie.Need-too-right-requires Inv-loop μ-loop
-too-right-requires c κs = search needs
-
-returns : tie.Need-returns Inv-loop μ-loop
+returns : tie.Need-returns
 returns c =
-    let k = c .before .before .before in
-    let d = k .before in
-    let e = toZ-ofZ w32 (d .args .d) (d .fits .d) in
-    sym (rw e at (k .loop .inv .2 ∙ right-here (leanOf (d .args .a .now)) (leanOf (d .args .b .now)) (d .args .s) _ (length (d .args .a .now)) (k .loop .i) (search needs) (sym (c .before .too-right .ensures) ∙ c .if1 .taken)))
+    let d = c .before in
+    let a = d .args .a .now in
+    let b = d .args .b .now in
+    sym (fits-none a b (d .args .s) (d .args .d) (fits-past (length a) (d .args .s) (leanOf a) (leanOf b) (d .args .d) (c .if1 .taken)))
 
-too-left-requires : tie.Need-too-left-requires Inv-loop μ-loop
-too-left-requires c κs = search needs
+range-of-requires : tie.Need-range-of-requires
+range-of-requires c κs = let p = c .before .pre in (record { rows = p .rows; tracks = p .tracks }, c .if1 .left)
 
-returns-2 : tie.Need-returns-2 Inv-loop μ-loop
+returns-2 : tie.Need-returns-2
 returns-2 c =
-    let k = c .before .before .before .before .before in
-    let d = k .before in
-    let e = toZ-ofZ w32 (d .args .d) (d .fits .d) in
-    sym (rw e at (k .loop .inv .2 ∙ left-here (leanOf (d .args .a .now)) (leanOf (d .args .b .now)) (d .args .s) _ (length (d .args .a .now)) (k .loop .i) (search needs) (sym (c .before .before .before .too-right .ensures) ∙ c .before .before .if1 .left) (sym (c .before .too-left .ensures) ∙ c .if2 .taken)))
+    let k = c .before .before .before .before in
+    let d = k .before .before in
+    let a = d .args .a .now in
+    let b = d .args .b .now in
+    let s = d .args .s in
+    let fl : SFits w32 (k .range-of .result .low) = search needs in
+    let fh : SFits w32 (k .range-of .result .high) = search needs in
+    let fd : SFits w32 (d .args .d) = search needs in
+    let l = rw (toZ-ofZ fl, toZ-ofZ fd, k .range-of .ensures) at (c .before .if2 .taken) in
+    let h = rw (toZ-ofZ fh, toZ-ofZ fd, k .range-of .ensures) at (c .if3 .taken) in
+    let w : Within (d .args .d) (rangeOf (length a) (leanOf a) (leanOf b) s) = record { low = true-le _ _ l; high = true-le _ _ h } in
+    sym (fits-none a b s (d .args .d) (range-exactly (length a) (leanOf a) (leanOf b) s (k .before .if1 .left) (d .args .d) .0 w))
 
-add-i : tie.Need-add-i Inv-loop μ-loop
-add-i c = search needs
+misfit-from-requires : tie.Need-misfit-from-requires
+misfit-from-requires c κs =
+    let d = c .before .before .before .before .before in
+    let fd : SFits w32 (d .args .d) = search needs in
+    rw (toZ-ofZ fd) (d .pre, omega arith)
 
-loop-less : tie.Need-loop-less Inv-loop μ-loop
-loop-less c = search needs
-
-loop-again : tie.Need-loop-again Inv-loop μ-loop
-loop-again c =
-    let k = c .before .before .before .before .before in
-    let d = k .before in
-    (search needs, search needs, k .loop .inv .2 ∙ not-here (leanOf (d .args .a .now)) (leanOf (d .args .b .now)) (d .args .s) _ (length (d .args .a .now)) (k .loop .i) (search needs) (sym (c .before .before .before .too-right .ensures) ∙ c .before .before .if1 .left) (sym (c .before .too-left .ensures) ∙ c .if2 .left))
-
-returns-3 : tie.Need-returns-3 Inv-loop μ-loop
+returns-3 : tie.Need-returns-3
 returns-3 c =
-    let k = c .before in
-    let d = k .before in
-    let e = toZ-ofZ w32 (d .args .d) (d .fits .d) in
-    sym (rw e at (k .loop .inv .2 ∙ at-end (leanOf (d .args .a .now)) (leanOf (d .args .b .now)) (d .args .s) _ (length (d .args .a .now)) (k .loop .i) (search needs)))
+    let d = c .before .before .before .before .before .before in
+    let fd : SFits w32 (d .args .d) = search needs in
+    let e : length (d .args .a .now) - d .args .s - 0 ≡ length (d .args .a .now) - d .args .s = omega arith in
+    rw (toZ-ofZ fd, e) at (c .misfit-from .ensures)
 
 pub first-misfit-spec : {M : Type 1} → statement M
 first-misfit-spec =
-    tie.close
-    (tie.spec
-    Inv-loop
-    μ-loop
-    loop-holds
-    add-loop
-    too-right-requires
-    returns
-    too-left-requires
-    returns-2
-    add-i
-    loop-less
-    loop-again
-    returns-3)
+    tie.close (tie.spec returns range-of-requires returns-2 misfit-from-requires returns-3)

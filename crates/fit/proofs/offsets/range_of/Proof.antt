@@ -1,105 +1,80 @@
--- The invariant: low and high are the largest low end and the smallest high end of the pairs 0 to i.
-use mathlib.Core.Path.{_≡_, sym, ap, _∙_}
-use Prim.Native.Nat.{_+_, _-_, _≤_, _<_}
+use mathlib.Core.Path.{_≡_}
+use Prim.Native.Nat.{_+_, _-_}
 use native.Mathlib.Omega.{arith}
-use borrow.Author.Needs.{sfits-of}
 use lib.ListN.{length}
+use lib.IntN.{pos, _+ℤ_, _-ℤ_}
+use mir.ValLaws.{toZ-pos}
+use Rattle.whole.specs.Pick.{largestAt, smallestAt}
+use Rattle.whole.proofs.Machine.{back}
+use Rattle.fit.specs.Offsets.{lowGap, highGap, gapsOf}
+use Rattle.fit.proofs.Ends.{fit-low, fit-high}
+use Rattle.fit.proofs.Spans.{low-of-gaps, high-of-gaps}
+use mir.Facts.{toZ-ofZ}
 use mir.Syntax.{w32}
-use mir.Val.{toZ}
-use mir.ValLaws.{toZ-ofZ}
-use Rattle.whole.specs.Pick.{largest, smallest}
-use Rattle.whole.proofs.Extremes.{largest-first, smallest-first, largest-more, smallest-more}
-use Rattle.wiring.specs.Fit.{leanOf, lowEnd, highEnd}
+use mir.Val.{SFits}
 use borrow.Author.Needs.{needs}
 use Rattle.fit.proofs.offsets.range_of.Statement.{statement}
 use Rattle.fit.proofs.offsets.range_of.Tie as tie
 
-abbrev Inv-loop : tie.InvT-loop
-Inv-loop a b s last low₀ high₀ i₀ low high i =
-    (i ≤ last) × (last ≡ length a - s - 1) × (toZ w32 low ≡ largest (lowEnd (leanOf a) (leanOf b) s) i) × (toZ w32 high ≡ smallest (highEnd (leanOf a) (leanOf b) s) i)
+gaps-of-requires : tie.Need-gaps-of-requires
+gaps-of-requires c κs = search needs
 
-abbrev μ-loop : tie.MeasureT-loop
-μ-loop a b s last low₀ high₀ i₀ low high i = last - i
+cast-t7 : tie.Need-cast-t7
+cast-t7 c = search needs
 
-sub-last : tie.Need-sub-last Inv-loop μ-loop
-sub-last c = search needs
+add-t8 : tie.Need-add-t8
+add-t8 c =
+    let k = c .before .before in
+    let d = k .before in
+    let s = d .args .s in
+    let a = d .args .a .now in
+    let b = d .args .b .now in
+    let r = d .pre .0 .rows in
+    let fl : SFits w32 (k .gaps-of .result .low) = search needs in
+    let fh : SFits w32 (k .gaps-of .result .high) = search needs in
+    let p = toZ-pos w32 s (omega (arith, r .few, d .pre .1)) in
+    let i = largestAt (lowGap a b s) (length a - s - 1) in
+    let j = smallestAt (highGap a b s) (length a - s - 1) in
+    let l = fit-low r s i (i + s) (d .pre .1) in
+    let h = fit-high r s (j + s) j (d .pre .1) in
+    rw (toZ-ofZ fl, p, k .gaps-of .ensures) (record { sfits = l })
 
-sub-last-2 : tie.Need-sub-last-2 Inv-loop μ-loop
-sub-last-2 c = search needs
+cast-t9 : tie.Need-cast-t9
+cast-t9 c = search needs
 
-low-end-requires : tie.Need-low-end-requires Inv-loop μ-loop
-low-end-requires c κs = search needs
+sub-t10 : tie.Need-sub-t10
+sub-t10 c =
+    let k = c .before .before in
+    let d = k .before in
+    let s = d .args .s in
+    let a = d .args .a .now in
+    let b = d .args .b .now in
+    let r = d .pre .0 .rows in
+    let fl : SFits w32 (k .gaps-of .result .low) = search needs in
+    let fh : SFits w32 (k .gaps-of .result .high) = search needs in
+    let p = toZ-pos w32 s (omega (arith, r .few, d .pre .1)) in
+    let i = largestAt (lowGap a b s) (length a - s - 1) in
+    let j = smallestAt (highGap a b s) (length a - s - 1) in
+    let l = fit-low r s i (i + s) (d .pre .1) in
+    let h = fit-high r s (j + s) j (d .pre .1) in
+    rw (toZ-ofZ fh, p, k .gaps-of .ensures) (record { sfits = h })
 
-high-end-requires : tie.Need-high-end-requires Inv-loop μ-loop
-high-end-requires c κs = search needs
-
-loop-holds : tie.Need-loop-holds Inv-loop μ-loop
-loop-holds c =
-    let l = c .before .low-end in
-    let h = c .high-end in
-    let d = c .before .before in
-    let x = leanOf (d .args .a .now) in
-    let y = leanOf (d .args .b .now) in
-    (search needs, search needs, toZ-ofZ w32 (l .result) (sfits-of (l .ok)) ∙ l .ensures ∙ sym (largest-first (lowEnd x y (d .args .s))), toZ-ofZ w32 (h .result) (sfits-of (h .ok)) ∙ h .ensures ∙ sym (smallest-first (highEnd x y (d .args .s))))
-
-add-i : tie.Need-add-i Inv-loop μ-loop
-add-i c = search needs
-
-low-end-requires-2 : tie.Need-low-end-requires-2 Inv-loop μ-loop
-low-end-requires-2 c κs = search needs
-
-larger-requires : tie.Need-larger-requires Inv-loop μ-loop
-larger-requires c κs = search needs
-
-high-end-requires-2 : tie.Need-high-end-requires-2 Inv-loop μ-loop
-high-end-requires-2 c κs =
-    let k = c .before .before .before in (k .before .before .before .pre .0, omega (arith, k .loop .inv .0, k .loop .inv .1, c .before .before .loop-test .taken))
-
-smaller-requires : tie.Need-smaller-requires Inv-loop μ-loop
-smaller-requires c κs = search needs
-
-loop-less : tie.Need-loop-less Inv-loop μ-loop
-loop-less c = search needs
-
-loop-again : tie.Need-loop-again Inv-loop μ-loop
-loop-again c =
-    let k = c .before .before .before .before .before in
-    let d = k .before .before .before in
-    let x = leanOf (d .args .a .now) in
-    let y = leanOf (d .args .b .now) in
-    let l = c .before .before .before .low-end2 in
-    let h = c .before .high-end2 in
-    let p = c .before .before .larger in
-    let q = c .smaller in (
-      search needs,
-      search needs,
-      toZ-ofZ w32 (p .result) (sfits-of (p .ok)) ∙ rw (toZ-ofZ w32 (l .result) (sfits-of (l .ok)), l .ensures, k .loop .inv .2) at (p .ensures) ∙ largest-more (lowEnd x y (d .args .s)) (k .loop .i),
-      toZ-ofZ w32 (q .result) (sfits-of (q .ok)) ∙ rw (toZ-ofZ w32 (h .result) (sfits-of (h .ok)), h .ensures, k .loop .inv .3) at (q .ensures) ∙ smallest-more (highEnd x y (d .args .s)) (k .loop .i),
-    )
-
-returns : tie.Need-returns Inv-loop μ-loop
+returns : tie.Need-returns
 returns c =
-    let k = c .before in
-    let d = k .before .before .before in
-    let e : k .loop .i ≡ length (d .args .a .now) - d .args .s - 1 = omega (arith, k .loop .inv .0, k .loop .inv .1, c .loop-test .left) in
-    rw (k .loop .inv .2, k .loop .inv .3, e)
+    let k = c .before .before in
+    let d = k .before in
+    let s = d .args .s in
+    let a = d .args .a .now in
+    let b = d .args .b .now in
+    let r = d .pre .0 .rows in
+    let fl : SFits w32 (k .gaps-of .result .low) = search needs in
+    let fh : SFits w32 (k .gaps-of .result .high) = search needs in
+    let p = toZ-pos w32 s (omega (arith, r .few, d .pre .1)) in
+    let i = largestAt (lowGap a b s) (length a - s - 1) in
+    let j = smallestAt (highGap a b s) (length a - s - 1) in
+    let l = fit-low r s i (i + s) (d .pre .1) in
+    let h = fit-high r s (j + s) j (d .pre .1) in
+    rw (toZ-ofZ fl, toZ-ofZ fh, p, k .gaps-of .ensures, back (gapsOf a b s .low +ℤ pos s) l, back (gapsOf a b s .high -ℤ pos s) h, low-of-gaps a b s, high-of-gaps a b s)
 
 pub range-of-spec : {M : Type 1} → statement M
-range-of-spec =
-    tie.close
-    (tie.spec
-    Inv-loop
-    μ-loop
-    sub-last
-    sub-last-2
-    low-end-requires
-    high-end-requires
-    loop-holds
-    add-i
-    low-end-requires-2
-    larger-requires
-    high-end-requires-2
-    smaller-requires
-    loop-less
-    loop-again
-    returns)
+range-of-spec = tie.close (tie.spec gaps-of-requires cast-t7 add-t8 cast-t9 sub-t10 returns)

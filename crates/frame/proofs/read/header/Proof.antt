@@ -1,3 +1,4 @@
+use native.Mathlib.Omega.{arith}
 use Rattle.whole.proofs.Machine.{back}
 use mathlib.Core.Path.{_∙_}
 use Rattle.frame.proofs.Frames.{is-header, not-header}
@@ -13,6 +14,9 @@ two-at-requires c κs = search needs
 
 two-at-requires-2 : tie.Need-two-at-requires-2
 two-at-requires-2 c κs = search needs
+
+cast-separation : tie.Need-cast-separation
+cast-separation c = omega (arith, c .two-at2 .ensures .small)
 
 four-at-requires : tie.Need-four-at-requires
 four-at-requires c κs = search needs
@@ -30,6 +34,7 @@ header-spec =
     byte-at-requires
     two-at-requires
     two-at-requires-2
+    cast-separation
     four-at-requires
     returns
     returns-2)

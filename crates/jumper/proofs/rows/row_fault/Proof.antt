@@ -1,108 +1,20 @@
--- The loop's invariant: the row's fault is the fault of what is left, after the column before it.
-use mathlib.Core.Path.{_≡_, sym, _∙_}
-use Prim.Native.Nat.{_≤_, _-_, _+_}
-use native.Mathlib.Nat.{add-zero}
-use native.Mathlib.Omega.{arith}
+use mathlib.Core.Path.{_≡_, sym}
+use Rattle.jumper.proofs.Accepted.{of-rowFault}
 use borrow.Author.Needs.{needs}
-use lib.ListN.{length, drop}
-use mir.Syntax.{w32}
-use mir.Val.{toZ}
-use Rattle.whole.proofs.Machine.{back}
-use Rattle.wiring.specs.Wiring.{pad}
-use Rattle.jumper.specs.Rows.{rowFault, faultAfter}
-use Rattle.jumper.proofs.Faults.{low, high, order, next, done}
 use Rattle.jumper.proofs.rows.row_fault.Statement.{statement}
 use Rattle.jumper.proofs.rows.row_fault.Tie as tie
 
-abbrev Inv-loop : tie.InvT-loop
-Inv-loop a base i₀ before₀ i before = (i ≤ length a) × (rowFault base a ≡ faultAfter (toZ w32 before) (base + i) (drop i a))
+is-sound-requires : tie.Need-is-sound-requires
+is-sound-requires c κs = search needs
 
-abbrev μ-loop : tie.MeasureT-loop
-μ-loop a base i₀ before₀ i before = length a - i
+returns : tie.Need-returns
+returns c = sym (of-rowFault _ _ (c .before .is-sound .ensures (c .if1 .taken)))
 
-sub-before : tie.Need-sub-before Inv-loop μ-loop
-sub-before c = search needs
+seek-fault-requires : tie.Need-seek-fault-requires
+seek-fault-requires c κs = search needs
 
-loop-holds : tie.Need-loop-holds Inv-loop μ-loop
-loop-holds c = (search needs, rw add-zero)
-
-mul-x : tie.Need-mul-x Inv-loop μ-loop
-mul-x c = search needs
-
-shared-slice-copy-out-x : tie.Need-shared-slice-copy-out-x Inv-loop μ-loop
-shared-slice-copy-out-x c = search needs
-
-add-t10 : tie.Need-add-t10 Inv-loop μ-loop
-add-t10 c = search needs
-
-returns : tie.Need-returns Inv-loop μ-loop
-returns c =
-    let k = c .before .before .before in
-    let a = k .before .args .a .now in
-    let e = back (pad a (k .loop .i)) (c .before .x .given) in
-    sym (k .loop .inv .1 ∙ low a _ (k .before .args .base) (k .loop .i) (c .before .before .loop-test .taken) (rw e at (c .if1 .taken)))
-
-add-t12 : tie.Need-add-t12 Inv-loop μ-loop
-add-t12 c = search needs
-
-returns-2 : tie.Need-returns-2 Inv-loop μ-loop
-returns-2 c =
-    let k = c .before .before .before .before in
-    let a = k .before .args .a .now in
-    let e = back (pad a (k .loop .i)) (c .before .before .x .given) in
-    sym (k .loop .inv .1 ∙ high a _ (k .before .args .base) (k .loop .i) (c .before .before .before .loop-test .taken) (rw e at (c .before .if1 .left)) (rw e at (c .if2 .taken)))
-
-add-t14 : tie.Need-add-t14 Inv-loop μ-loop
-add-t14 c = search needs
-
-returns-3 : tie.Need-returns-3 Inv-loop μ-loop
-returns-3 c =
-    let k = c .before .before .before .before .before in
-    let a = k .before .args .a .now in
-    let e = back (pad a (k .loop .i)) (c .before .before .before .x .given) in
-    sym
-    (k .loop .inv .1
-    ∙ order a _ (k .before .args .base) (k .loop .i) (c .before .before .before .before .loop-test .taken) (rw e at (c .before .before .if1 .left))
-    (rw e at (c .before .if2 .left)) (rw e at (c .if3 .taken)))
-
-add-i : tie.Need-add-i Inv-loop μ-loop
-add-i c = search needs
-
-loop-less : tie.Need-loop-less Inv-loop μ-loop
-loop-less c = search needs
-
-loop-again : tie.Need-loop-again Inv-loop μ-loop
-loop-again c =
-    let k = c .before .before .before .before .before in
-    let a = k .before .args .a .now in
-    let e = back (pad a (k .loop .i)) (c .before .before .before .x .given) in (
-      search needs,
-      rw e
-          (k .loop .inv .1
-          ∙ next a _ (k .before .args .base) (k .loop .i) (c .before .before .before .before .loop-test .taken) (rw e at (c .before .before .if1 .left))
-          (rw e at (c .before .if2 .left)) (rw e at (c .if3 .left))),
-    )
-
-returns-4 : tie.Need-returns-4 Inv-loop μ-loop
-returns-4 c = sym (c .before .loop .inv .1 ∙ done _ _ _ _ (c .loop-test .left))
+returns-2 : tie.Need-returns-2
+returns-2 c = search needs
 
 pub row-fault-spec : {M : Type 1} → statement M
-row-fault-spec =
-    tie.close
-    (tie.spec
-    Inv-loop
-    μ-loop
-    sub-before
-    loop-holds
-    mul-x
-    shared-slice-copy-out-x
-    add-t10
-    returns
-    add-t12
-    returns-2
-    add-t14
-    returns-3
-    add-i
-    loop-less
-    loop-again
-    returns-4)
+row-fault-spec = tie.close (tie.spec is-sound-requires returns seek-fault-requires returns-2)

@@ -1,0 +1,115 @@
+-- The promise of the best call, case by case: refused rows, a short buffer, an answer.
+use mathlib.Core.Path.{_≡_, refl, sym, ap, _∙_}
+use mathlib.Core.Bool.{Bool, true, false}
+use mathlib.Core.List.{List, [], _∷_, _++_}
+use mathlib.Core.Logic.{_↔_}
+use Prim.Native.Nat.{ℕ, _+_, _*_, _≤_, _<_}
+use native.Mathlib.Omega.{arith}
+use borrow.Author.Tests.{lt-ltb, le-ltb}
+use lib.Dec.{ltb}
+use lib.ListN.{length, drop}
+use lib.IntN.{ℤ}
+use lib.Signed.{_≤ℤ_}
+use Rattle.whole.proofs.Arith.{up, down, arithℤ}
+use Rattle.wiring.specs.Wiring.{pad, HasWiring}
+use Rattle.wiring.specs.Fit.{leanOf, Fits}
+use Rattle.wiring.proofs.Theorem.{fit-exactly}
+use Rattle.jumper.specs.Refusals.{refusalNumbers}
+use Rattle.jumper.specs.Rows.{AcceptedRows, checkRows}
+use Rattle.jumper.specs.Range.{Within}
+use Rattle.jumper.specs.Span.{rangeOf}
+use Rattle.jumper.specs.declared.refusal.Refusal.{Refusal}
+use Rattle.jumper.specs.declared.refusal.Refusal.the-variants.{Buffer}
+use Rattle.jumper.specs.declared.rows.Checked.{Checked}
+use Rattle.jumper.specs.declared.rows.Checked.the-variants.{Accepted, Refused as RowsRefused}
+use Rattle.jumper.proofs.Accepted.{numbered, refused-not, rows-of, of-rows}
+use Rattle.jumper.proofs.Checks.{early-rows}
+use Rattle.jumper.proofs.Spans.{range-exactly}
+use Rattle.best.specs.Halving.{halving, levels}
+use Rattle.best.specs.Best.{bestNumbers, halvingOf, ladderOf, plannedOf, bestAnswer, ladderBy, BestAnswer}
+use Rattle.best.specs.Work.{Plannable, IsPlanned}
+use Rattle.best.specs.declared.plan.Planned.{Planned}
+use Rattle.best.specs.declared.plan.Best.{Best}
+use Rattle.best.specs.declared.plan.Best.the-variants.{Found, Refused}
+use Rattle.best.proofs.Plans.{top-rises, halvable-lean}
+use Rattle.best.proofs.Bests.{BestOf, best-is-best, count-fixed, count-cheap, ladder-length}
+
+module _ (a b : List ℤ) (before : List ℕ) where
+  pub rows-refused : (f : Refusal) → checkRows a b ≡ RowsRefused f → BestAnswer a b before before (Refused f)
+  rows-refused f e =
+      let n : refusalNumbers f .refusal ≤ 5 = rw e at (early-rows a b) in
+      let z : AcceptedRows a b → ⊥ = λ r. refused-not f (sym e ∙ of-rows a b r) in
+      record {
+        answer = rw e;
+        buffer = refl;
+        accepts = ((λ q. absurd (numbered f q)), (λ w. absurd (z (w .0))));
+        short = ((λ q. absurd (omega arith)), (λ w. absurd (z (w .0))));
+        exactly = λ q. absurd (numbered f q);
+        some = λ q. absurd (numbered f q);
+        none = λ q. absurd (numbered f q);
+        within = λ q. absurd (numbered f q);
+        below = λ q. absurd (numbered f q);
+        fixed = λ q. absurd (numbered f q);
+        cheap = λ q. absurd (numbered f q);
+      }
+
+  module _ (e : checkRows a b ≡ Accepted) where
+    rows : AcceptedRows a b
+    rows = rows-of a b e
+
+    pub buffer-short : length before < length (ladderOf a b) → BestAnswer a b before before (Refused Buffer)
+    buffer-short h =
+        record {
+          answer = rw (e, lt-ltb (length before) (length (ladderOf a b)) h);
+          buffer = refl;
+          accepts = ((λ q. absurd (numbered Buffer q)), (λ w. absurd (omega (arith, w .1))));
+          short = ((λ q. (rows, h)), (λ w. refl));
+          exactly = λ q. absurd (numbered Buffer q);
+          some = λ q. absurd (numbered Buffer q);
+          none = λ q. absurd (numbered Buffer q);
+          within = λ q. absurd (numbered Buffer q);
+          below = λ q. absurd (numbered Buffer q);
+          fixed = λ q. absurd (numbered Buffer q);
+          cheap = λ q. absurd (numbered Buffer q);
+        }
+
+    -- demand 3, of the rule's best
+    best : BestOf (length a) (leanOf a) (leanOf b) (halvingOf a b .best)
+    best = let h = halvable-lean a b rows in best-is-best (length a) (leanOf a) (leanOf b) (h .some) (h .bottom) (h .top)
+
+    wiring-fits : (s : ℕ) (d : ℤ) → HasWiring a b s d ↔ Fits (length a) s (leanOf a) (leanOf b) d
+    wiring-fits s d = fit-exactly (length a) s (pad a) (pad b) d (rows .bottom .rising) (top-rises a b rows)
+
+    inside : halvingOf a b .best < length a
+    inside = omega (arith, best .within, rows .some)
+
+    pub found : length (ladderOf a b) ≤ length before → (after : List ℕ) (p : Planned) → IsPlanned a b before after p → BestAnswer a b before after (Found p)
+    found h after p i =
+        rw (i .planned)
+        (record {
+          answer = rw (e, le-ltb (length before) (length (ladderOf a b)) h);
+          buffer = i .ladder;
+          accepts = ((λ q. (rows, h)), (λ w. refl));
+          short = ((λ q. absurd (omega arith)), (λ w. absurd (omega (arith, w .1))));
+          exactly = λ q d.
+              let s = halvingOf a b .best in
+              let r = range-exactly (length a) (leanOf a) (leanOf b) s inside d in
+              let f = wiring-fits s d in
+              ((λ w. let v = r .1 (f .0 w) in record { low = v .low; high = v .high }), (λ v. f .1 (r .0 (record { low = v .low; high = v .high }))));
+          some = λ q.
+              let d = best .some .0 in
+              let v = range-exactly (length a) (leanOf a) (leanOf b) (halvingOf a b .best) inside d .1 (best .some .1) in
+              omega (arithℤ, v .low, v .high);
+          none = λ q t l d w. best .none t l d (wiring-fits t d .0 w);
+          within = λ q. best .within;
+          below = λ q. inside;
+          fixed = λ q. count-fixed (length a) (leanOf a) (leanOf b) (rows .some);
+          cheap = λ q. omega (arith, count-cheap (length a) (leanOf a) (leanOf b) (rows .some));
+        })
+
+    -- the buffer by the number of levels, as the code measures it
+    pub ladder-rungs : length (ladderOf a b) ≡ 2 * levels (length a)
+    ladder-rungs = ladder-length (length a) (leanOf a) (leanOf b) (rows .some)
+
+    pub plannable : 2 * levels (length a) ≤ length before → Plannable a b before
+    plannable h = record { rows = rows; rungs = h }

@@ -1,0 +1,79 @@
+use mathlib.Core.Path.{_≡_, refl, sym, _∙_}
+use mathlib.Core.Bool.{true, false}
+use Prim.Native.Nat.{_*_, _-_, _<_, _≤_}
+use native.Mathlib.Nat.{pos-of-ne-zero}
+use native.Mathlib.Omega.{arith}
+use borrow.Author.Needs.{needs}
+use lib.ListN.{length}
+use lib.Signed.{ltZ}
+use mir.Facts.{toZ-ofZ}
+use mir.Syntax.{w32}
+use mir.Val.{SFits}
+use Rattle.wiring.specs.Wiring.{pad}
+use Rattle.best.proofs.Levels.{from-none, from-past}
+use Rattle.best.proofs.Choices.{open-odd, past-odd, trial-few}
+use Rattle.best.proofs.level.choose.Statement.{statement}
+use Rattle.best.proofs.level.choose.Tie as tie
+
+try-even-requires : tie.Need-try-even-requires
+try-even-requires c κs = search needs
+
+returns : tie.Need-returns
+returns c =
+    let a = c .before .before .args in
+    rw (from-none (a .m) (pad (a .x .now)) (pad (a .y .now)) (a .h) (a .read) (c .before .if1 .taken)) (c .try-even .ensures)
+
+mul-s : tie.Need-mul-s
+mul-s c = search needs
+
+sub-s : tie.Need-sub-s
+sub-s c = search needs
+
+try-at-requires : tie.Need-try-at-requires
+try-at-requires c κs = search needs
+
+add-count : tie.Need-add-count
+add-count c =
+    let k = c .before .before in
+    let s = k .before .before in
+    omega (arith, trial-few (s .args .m) (s .args .x .now) (s .args .y .now) (2 * s .args .h - 1) (k .try-at .result) (k .try-at .ensures), s .pre .cheap, s .pre .front .rows .few)
+
+try-even-requires-2 : tie.Need-try-even-requires-2
+try-even-requires-2 c κs =
+    let k = c .before .before .before .before .before in
+    let s = k .before .before in
+    let p = s .pre in
+    record { front = p .front; more = p .more; within = p .within; cheap = omega (arith, trial-few (s .args .m) (s .args .x .now) (s .args .y .now) (2 * s .args .h - 1) (k .try-at .result) (k .try-at .ensures), p .cheap, p .front .rows .few) }
+
+returns-2 : tie.Need-returns-2
+returns-2 c =
+    let j = c .before in
+    let k = j .before .before .before .before .before in
+    let r = k .try-at .result in
+    let a = k .before .before .args in
+    let l : SFits w32 (r .range .low) = search needs in
+    let h : SFits w32 (r .range .high) = search needs in
+    past-odd (a .m) (a .x .now) (a .y .now) (a .h) (a .read) r _ (pos-of-ne-zero (k .before .if1 .left)) (k .try-at .ensures) (simp (toZ-ofZ l, toZ-ofZ h) at (j .if2 .taken)) (c .try-even2 .ensures)
+
+returns-3 : tie.Need-returns-3
+returns-3 c =
+    let k = c .before .before .before .before .before in
+    let r = k .try-at .result in
+    let a = k .before .before .args in
+    let l : SFits w32 (r .range .low) = search needs in
+    let h : SFits w32 (r .range .high) = search needs in
+    open-odd (a .m) (a .x .now) (a .y .now) (a .h) (a .read) r (pos-of-ne-zero (k .before .if1 .left)) (k .try-at .ensures) (simp (toZ-ofZ l, toZ-ofZ h) at (c .if2 .left))
+
+pub choose-spec : {M : Type 1} → statement M
+choose-spec =
+    tie.close
+    (tie.spec
+    try-even-requires
+    returns
+    mul-s
+    sub-s
+    try-at-requires
+    add-count
+    try-even-requires-2
+    returns-2
+    returns-3)

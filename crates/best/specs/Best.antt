@@ -1,0 +1,86 @@
+-- THE PROMISE of the best call (01, "Best separation by halving"; refusals 1 to 5, then 9). Callers cite this.
+use mathlib.Core.Bool.{Bool, true, false}
+use mathlib.Core.Path.{_≡_}
+use mathlib.Core.List.{List, _++_}
+use mathlib.Core.Logic.{_↔_}
+use Prim.Native.Nat.{ℕ, _*_, _≤_, _<_}
+use lib.Dec.{ltb}
+use lib.ListN.{length, drop}
+use lib.IntN.{ℤ}
+use lib.Signed.{_≤ℤ_}
+use Rattle.wiring.specs.Wiring.{HasWiring}
+use Rattle.wiring.specs.Fit.{leanOf}
+use Rattle.jumper.specs.Refusals.{refusalNumbers}
+use Rattle.jumper.specs.Rows.{AcceptedRows, checkRows}
+use Rattle.jumper.specs.Range.{Within}
+use Rattle.jumper.specs.Span.{rangeOf}
+use Rattle.jumper.specs.declared.refusal.Numbers.{Numbers}
+use Rattle.jumper.specs.declared.refusal.Refusal.the-variants.{Buffer}
+use Rattle.jumper.specs.declared.rows.Checked.{Checked}
+use Rattle.jumper.specs.declared.rows.Checked.the-variants.{Accepted, Refused as RowsRefused}
+use Rattle.jumper.specs.declared.range.OffsetRange.{OffsetRange}
+use Rattle.best.specs.Halving.{Halving, halving, countOf}
+use Rattle.best.specs.declared.plan.Planned.{Planned}
+use Rattle.best.specs.declared.plan.Best.{Best}
+use Rattle.best.specs.declared.plan.Best.the-variants.{Found, Refused}
+
+-- the numbers of an answer: "The answer is best separation, its offset range and the count."
+abbrev pub bestNumbers : Best → Numbers
+bestNumbers (Found p) = record { refusal = 0; place = 0; second = 0; separation = p .separation; lowest = p .range .low; highest = p .range .high; pair = 0; side = 0; count = p .count }
+bestNumbers (Refused r) = refusalNumbers r
+
+-- the range that the numbers name
+abbrev pub rangeNamed : Numbers → OffsetRange
+rangeNamed k = record { low = k .lowest; high = k .highest }
+
+-- the rule's halving of two rows, its ladder, and what it says of them
+abbrev pub halvingOf : (a b : List ℤ) → Halving
+halvingOf a b = halving (length a) (leanOf a) (leanOf b)
+
+abbrev pub ladderOf : (a b : List ℤ) → List ℕ
+ladderOf a b = halvingOf a b .ladder
+
+abbrev pub plannedOf : (a b : List ℤ) → Planned
+plannedOf a b =
+    record {
+      separation = halvingOf a b .best;
+      range = rangeOf (length a) (leanOf a) (leanOf b) (halvingOf a b .best);
+      count = halvingOf a b .count;
+    }
+
+-- "BUFFER is given if these don't all have room", after the refusals 1 to 5
+abbrev pub roomOr : Bool → Planned → Best
+roomOr true p = Refused Buffer
+roomOr false p = Found p
+
+abbrev pub unlessRefused : Checked → Best → Best
+unlessRefused Accepted q = q
+unlessRefused (RowsRefused r) q = Refused r
+
+abbrev pub bestAnswer : (a b : List ℤ) (before : List ℕ) → Best
+bestAnswer a b before = unlessRefused (checkRows a b) (roomOr (ltb (length before) (length (ladderOf a b))) (plannedOf a b))
+
+-- "The ladder, written to a lent buffer .. places beyond are untouched", and on a refusal "no lent memory changes"
+abbrev pub ladderBy : Best → (ladder before : List ℕ) → List ℕ
+ladderBy (Found p) ladder before = ladder ++ drop (length ladder) before
+ladderBy (Refused r) ladder before = before
+
+-- What `best_of` promises, of the buffer before and after it. Demand 3 is `exactly`, `some` and `none`.
+pub record BestAnswer (a b : List ℤ) (before after : List ℕ) (r : Best) : Type 0 where
+  -- answer and buffer are the rule's, at every input
+  pub answer : r ≡ bestAnswer a b before
+  pub buffer : after ≡ ladderBy r (ladderOf a b) before
+  -- no refusal exactly for accepted rows and room enough; BUFFER exactly for accepted rows and too little room
+  pub accepts : (bestNumbers r .refusal ≡ 0) ↔ (AcceptedRows a b × (length (ladderOf a b) ≤ length before))
+  pub short : (bestNumbers r .refusal ≡ 9) ↔ (AcceptedRows a b × (length before < length (ladderOf a b)))
+  -- a legal wiring exists at the best separation at exactly the whole-number offsets of the range, and the range isn't empty
+  pub exactly : bestNumbers r .refusal ≡ 0 → (d : ℤ) → HasWiring a b (bestNumbers r .separation) d ↔ Within d (rangeNamed (bestNumbers r))
+  pub some : bestNumbers r .refusal ≡ 0 → bestNumbers r .lowest ≤ℤ bestNumbers r .highest
+  -- at any smaller separation no wiring of any shape is legal at any whole-number offset
+  pub none : bestNumbers r .refusal ≡ 0 → (t : ℕ) → t < bestNumbers r .separation → (d : ℤ) → HasWiring a b t d → ⊥
+  -- "the best separation is at most half the number of pairs" (003, lemma 2), so it is below their number
+  pub within : bestNumbers r .refusal ≡ 0 → 2 * bestNumbers r .separation ≤ length a
+  pub below : bestNumbers r .refusal ≡ 0 → bestNumbers r .separation < length a
+  -- "The count is therefore fixed by the ladder", and it is at most 12 for each pair
+  pub fixed : bestNumbers r .refusal ≡ 0 → bestNumbers r .count ≡ countOf (ladderOf a b)
+  pub cheap : bestNumbers r .refusal ≡ 0 → bestNumbers r .count ≤ 12 * length a

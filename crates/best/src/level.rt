@@ -1,0 +1,93 @@
+// One level of the halving: its best separation from that of its even half, and its rung of the ladder.
+ghost use mathlib.Core.Path.{_≡_};
+ghost use mathlib.Core.List.{_∷_};
+ghost use Prim.Native.Nat.{_≤_};
+ghost use lib.ListN.{length, drop};
+ghost use Rattle.jumper.specs.Limits.{maxPairs};
+ghost use Rattle.best.specs.Halving.{levels};
+ghost use Rattle.best.specs.Work.{Choosable, EvenTried, Chosen, lowestLevel};
+use crate::trial::try_at;
+use jumper::range::OffsetRange;
+
+// The best separation, how many differences were read for it, and the range there, which is empty if it was not read.
+pub(crate) struct Level {
+    pub(crate) best: usize,
+    pub(crate) range: OffsetRange,
+    pub(crate) count: usize,
+}
+
+// One pair: its range is not read.
+pub(crate) fn lowest() -> Level
+    ensures { λ r. ⌜ r ≡ lowestLevel ⌝ }
+{
+    Level {
+        best: 0,
+        range: OffsetRange { low: 1, high: 0 },
+        count: 0,
+    }
+}
+
+// 2h, else 2h + 1 without a trial.
+fn try_even(x: &[i32], y: &[i32], m: usize, h: usize, read: usize) -> Level
+    requires { ⌜ Choosable 200000 m (now x) (now y) h read ⌝ }
+    ensures { λ r. ⌜ EvenTried m (now (x .entry)) (now (y .entry)) h read r ⌝ }
+{
+    let s = 2 * h;
+    let tried = try_at(x, y, m, s);
+    let range = tried.range;
+    let count = read + tried.count;
+    if range.high < range.low {
+        let best = s + 1;
+        return Level { best, range, count };
+    }
+    Level {
+        best: s,
+        range,
+        count,
+    }
+}
+
+// 2h - 1 if h is not 0, then 2h.
+pub(crate) fn choose(x: &[i32], y: &[i32], m: usize, h: usize, read: usize) -> Level
+    requires { ⌜ Choosable 100000 m (now x) (now y) h read ⌝ }
+    ensures { λ r. ⌜ Chosen m (now (x .entry)) (now (y .entry)) h read r ⌝ }
+{
+    if h == 0 {
+        return try_even(x, y, m, h, read);
+    }
+    let s = 2 * h - 1;
+    let tried = try_at(x, y, m, s);
+    let range = tried.range;
+    let count = read + tried.count;
+    if range.high < range.low {
+        return try_even(x, y, m, h, count);
+    }
+    Level {
+        best: s,
+        range,
+        count,
+    }
+}
+
+// A rung of the ladder: a level's size and its best separation.
+pub(crate) fn set_rung(ladder: &mut [usize], size: usize, best: usize)
+    requires { ⌜ 2 ≤ length (now ladder) ⌝ }
+    ensures { λ _. ⌜ now (ladder .exit) ≡ size ∷ best ∷ drop 2 (now (ladder .entry)) ⌝ }
+{
+    ladder[0] = size;
+    ladder[1] = best;
+}
+
+// How many levels there are from n pairs down to one.
+pub(crate) fn count_levels(n: usize) -> usize
+    requires { ⌜ (1 ≤ n) × (n ≤ maxPairs) ⌝ }
+    ensures { λ r. ⌜ r ≡ levels n ⌝ }
+{
+    let mut m = n;
+    let mut count: usize = 1;
+    while 1 < m {
+        m = (m + 1) / 2;
+        count += 1;
+    }
+    count
+}

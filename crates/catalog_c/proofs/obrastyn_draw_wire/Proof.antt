@@ -1,0 +1,24 @@
+use mir.Syntax.{w32}
+use mir.ValLaws.{toZ-ofZ}
+use borrow.Author.Needs.{needs}
+use Rattle.catalog_c.proofs.obrastyn_draw_wire.Statement.{statement}
+use Rattle.catalog_c.proofs.obrastyn_draw_wire.Tie as tie
+
+draw-wire-requires : tie.Need-draw-wire-requires
+draw-wire-requires c κs = search needs
+
+numbers-requires : tie.Need-numbers-requires
+numbers-requires c κs = search needs
+
+same-length : tie.Need-same-length
+same-length c = search needs
+
+returns : tie.Need-returns
+returns c =
+    let s = c .before .before .before .before in
+    let e = toZ-ofZ w32 (s .args .d) (s .fits .d) in
+    let b = rw e at (c .before .before .draw-wire .ensures) in (rw (← b .answer) (c .numbers .ensures), rw (← b .answer) (b .buffer))
+
+pub obrastyn-draw-wire-spec : {M : Type 1} → statement M
+obrastyn-draw-wire-spec =
+    tie.close (tie.spec draw-wire-requires numbers-requires same-length returns)

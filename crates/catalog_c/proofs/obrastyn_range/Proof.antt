@@ -1,0 +1,15 @@
+use borrow.Author.Needs.{needs}
+use Rattle.catalog_c.proofs.obrastyn_range.Statement.{statement}
+use Rattle.catalog_c.proofs.obrastyn_range.Tie as tie
+
+range-at-requires : tie.Need-range-at-requires
+range-at-requires c κs = search needs
+
+numbers-requires : tie.Need-numbers-requires
+numbers-requires c κs = search needs
+
+returns : tie.Need-returns
+returns c = rw (← c .before .range-at .ensures .answer) (c .numbers .ensures)
+
+pub obrastyn-range-spec : {M : Type 1} → statement M
+obrastyn-range-spec = tie.close (tie.spec range-at-requires numbers-requires returns)

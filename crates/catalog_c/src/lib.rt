@@ -1,0 +1,102 @@
+// Floor 8: the calls of the product for C and Rust. A slice is a pointer and a count of elements; every answer comes back as `Numbers` by value.
+// The promises are those of the calls below, in numbers; what the numbers mean of legal wirings is told there.
+ghost use mathlib.Core.Path.{_≡_};
+ghost use lib.ListN.{length};
+ghost use Rattle.jumper.specs.Rows.{checkedNumbers, checkRows};
+ghost use Rattle.fit.specs.Misfit.{fitOf};
+ghost use Rattle.fit.specs.Stretch.{StretchPlace};
+ghost use Rattle.fit.specs.Least.{leastNumbers, leastAnswer};
+ghost use Rattle.fit.specs.Offsets.{offsetsNumbers, offsetsAnswer};
+ghost use Rattle.best.specs.Best.{bestNumbers, bestAnswer, ladderBy, ladderOf};
+ghost use Rattle.route.specs.Draw.{wireRefusal, allRefusal, unlessRefused, wireDrawn, allDrawn};
+ghost use Rattle.route.specs.Check.{routeChecked};
+use fit::stretch::Place;
+use jumper::refusal::Numbers;
+
+// The row check: refusals 1 to 5.
+#[no_mangle]
+pub extern "C" fn obrastyn_rows(a: &[i32], b: &[i32]) -> Numbers
+    ensures { λ r. ⌜ r ≡ checkedNumbers (checkRows (now (a .entry)) (now (b .entry))) ⌝ }
+{
+    jumper::rows::check_rows(a, b).numbers()
+}
+
+// Whether a legal wiring exists at separation s and offset d: refusals 1 to 7 and 10.
+#[no_mangle]
+pub extern "C" fn obrastyn_fit(a: &[i32], b: &[i32], s: usize, d: i32) -> Numbers
+    ensures { λ r. ⌜ r ≡ checkedNumbers (fitOf (now (a .entry)) (now (b .entry)) s d) ⌝ }
+{
+    fit::misfit::fit(a, b, s, d).numbers()
+}
+
+// The least separation at offset d: refusals 1 to 5 and 7.
+#[no_mangle]
+pub extern "C" fn obrastyn_least(a: &[i32], b: &[i32], d: i32) -> Numbers
+    ensures { λ r. ⌜ r ≡ leastNumbers (leastAnswer (now (a .entry)) (now (b .entry)) d) ⌝ }
+{
+    fit::least::least_at(a, b, d).numbers()
+}
+
+// The offsets that fit at separation s: refusals 1 to 6 and 11.
+#[no_mangle]
+pub extern "C" fn obrastyn_range(a: &[i32], b: &[i32], s: usize) -> Numbers
+    ensures { λ r. ⌜ r ≡ offsetsNumbers (offsetsAnswer (now (a .entry)) (now (b .entry)) s) ⌝ }
+{
+    fit::offsets::range_at(a, b, s).numbers()
+}
+
+// The stretch at fault, by its place: refused or fitting, it has no pads.
+#[no_mangle]
+pub extern "C" fn obrastyn_stretch(a: &[i32], b: &[i32], s: usize, d: i32) -> Place
+    ensures { λ r. ⌜ StretchPlace (now (a .entry)) (now (b .entry)) s d r ⌝ }
+{
+    fit::stretch::stretch_place(a, b, s, d)
+}
+
+// The best separation, its offsets and the count, with the ladder in front of the buffer: refusals 1 to 5 and 9.
+#[no_mangle]
+pub extern "C" fn obrastyn_best(a: &[i32], b: &[i32], ladder: &mut [usize]) -> Numbers
+    ensures answer { λ r. ⌜ r ≡ bestNumbers (bestAnswer (now (a .entry)) (now (b .entry)) (now (ladder .entry))) ⌝ }
+    ensures buffer { λ r. ⌜ now (ladder .exit) ≡ ladderBy (bestAnswer (now (a .entry)) (now (b .entry)) (now (ladder .entry))) (ladderOf (now (a .entry)) (now (b .entry))) (now (ladder .entry)) ⌝ }
+{
+    best::plan::best_of(a, b, ladder).numbers()
+}
+
+// Wire `wire` drawn into s + 1 places: refusals 1 to 10.
+#[no_mangle]
+pub extern "C" fn obrastyn_draw_wire(
+    a: &[i32],
+    b: &[i32],
+    s: usize,
+    d: i32,
+    wire: usize,
+    out: &mut [i32],
+) -> Numbers
+    ensures answer { λ r. ⌜ r ≡ checkedNumbers (wireRefusal (now (a .entry)) (now (b .entry)) s d wire (length (now (out .entry)))) ⌝ }
+    ensures buffer { λ r. ⌜ now (out .exit) ≡ unlessRefused (wireRefusal (now (a .entry)) (now (b .entry)) s d wire (length (now (out .entry)))) (wireDrawn (now (a .entry)) (now (b .entry)) s d wire (now (out .entry))) (now (out .entry)) ⌝ }
+{
+    route::drawing::draw_wire(a, b, s, d, wire, out).numbers()
+}
+
+// All wires drawn, wire after wire, into n(s + 1) places: refusals 1 to 7, 9 and 10.
+#[no_mangle]
+pub extern "C" fn obrastyn_draw_all(
+    a: &[i32],
+    b: &[i32],
+    s: usize,
+    d: i32,
+    out: &mut [i32],
+) -> Numbers
+    ensures answer { λ r. ⌜ r ≡ checkedNumbers (allRefusal (now (a .entry)) (now (b .entry)) s d (length (now (out .entry)))) ⌝ }
+    ensures buffer { λ r. ⌜ now (out .exit) ≡ unlessRefused (allRefusal (now (a .entry)) (now (b .entry)) s d (length (now (out .entry)))) (allDrawn (now (a .entry)) (now (b .entry)) s d (now (out .entry))) (now (out .entry)) ⌝ }
+{
+    route::drawing::draw_all(a, b, s, d, out).numbers()
+}
+
+// A table from anyone, checked: refusals 1 to 7, 9 and 16.
+#[no_mangle]
+pub extern "C" fn obrastyn_check(a: &[i32], b: &[i32], s: usize, d: i32, table: &[i32]) -> Numbers
+    ensures { λ r. ⌜ r ≡ checkedNumbers (routeChecked (now (a .entry)) (now (b .entry)) s d (now (table .entry))) ⌝ }
+{
+    route::checking::check_route(a, b, s, d, table).numbers()
+}

@@ -1,0 +1,252 @@
+-- What each of the four calls promises, said of the numbers that answer its wish.
+use mathlib.Core.Path.{_≡_, refl, sym, ap, _∙_}
+use mathlib.Core.Bool.{Bool, true, false}
+use mathlib.Core.List.{List}
+use mathlib.Core.Logic.{_↔_}
+use Prim.Native.Nat.{ℕ, zero, suc, _+_, _-_, _*_, _≤_, _<_}
+use native.Mathlib.Decide.{decLt}
+use native.Mathlib.Omega.{arith}
+use lib.Dec.{ltb}
+use lib.ListN.{length, replicate}
+use lib.IntN.{ℤ, pos}
+use lib.Signed.{_≤ℤ_, ltZ}
+use Rattle.whole.proofs.Arith.{up, down, arithℤ, dif, sum}
+use Rattle.wiring.specs.Wiring.{HasWiring, pad}
+use Rattle.wiring.specs.Fit.{leanOf, lowEnd, highEnd, half}
+use Rattle.wiring.proofs.Rule.{spread}
+use Rattle.jumper.specs.Limits.{maxPairs, lastColumn, AcceptedOffset}
+use Rattle.jumper.specs.Refusals.{refusalNumbers}
+use Rattle.jumper.specs.Rows.{AcceptedRow, AcceptedRows, checkRows}
+use Rattle.jumper.specs.Asked.{checkTracks, checkOffset, checkAsked, AcceptedTracks, Asked}
+use Rattle.jumper.specs.Range.{Within, wholeRange}
+use Rattle.jumper.specs.Span.{lowestAt, highestAt, rangeOf}
+use Rattle.jumper.specs.declared.refusal.Refusal.{Refusal}
+use Rattle.jumper.specs.declared.refusal.Refusal.the-variants.{NoFit, NoOffset}
+use Rattle.jumper.specs.declared.range.OffsetRange.{OffsetRange}
+use Rattle.jumper.specs.declared.rows.Checked.{Checked}
+use Rattle.jumper.specs.declared.rows.Checked.the-variants.{Accepted, Refused}
+use Rattle.jumper.proofs.Accepted.{numbered}
+use Rattle.jumper.proofs.Checks.{Early, tracks-accepted, early-tracks, early-shift, early-rows}
+use Rattle.fit.specs.Misfit.{fitOf, refusing, misfitOf, FitAnswer}
+use Rattle.fit.specs.Least.{leastNumbers, leastOf, shown, unlessRefused, leastAnswer, LeastAnswer}
+use Rattle.fit.specs.Offsets.{offsetsNumbers, offsetsAnswer, rangeFound, rangeNamed, OffsetsAnswer}
+use Rattle.fit.specs.declared.misfit.Misfit.{Misfit}
+use Rattle.fit.specs.declared.misfit.Misfit.the-variants.{None, At}
+use Rattle.fit.specs.declared.least.Least.{Least}
+use Rattle.fit.specs.declared.least.Least.the-variants.{Straight, Tracks, Refused as NoLeast}
+use Rattle.fit.specs.declared.offsets.Offsets.{Offsets}
+use Rattle.fit.specs.declared.offsets.Offsets.the-variants.{Range as Offered, Refused as NoRange}
+use Rattle.fit.proofs.Misfits.{wiring-exactly}
+use Rattle.fit.proofs.Spans.{past-all, empty-range, some-range}
+use Rattle.best.specs.Halving.{levels}
+use Rattle.best.specs.Best.{bestNumbers, bestAnswer, ladderOf, plannedOf, roomOr, BestAnswer}
+use Rattle.best.specs.Best.{unlessRefused as unlessRows}
+use Rattle.best.specs.declared.plan.Best.{Best}
+use Rattle.best.specs.declared.plan.Best.the-variants.{Found, Refused as NoBest}
+use Rattle.best.proofs.Levels.{one-level, more-levels}
+use Rattle.best.proofs.Bests.{ladder-length}
+use Rattle.form.specs.Plan.{fitPlan, leastPlan, rangePlan, PlanAnswer}
+use Rattle.form.proofs.Known.{known-fit, known-least, known-range, known-best}
+use Rattle.form.specs.declared.wish.Wish.the-variants.{Fit, Least as Leastwise, Range, Best as Bestwise}
+
+-- an accepted row leans from 0 to the last column
+lean-low : {a : List ℤ} → AcceptedRow a → (k : ℕ) → k < length a → pos 0 ≤ℤ leanOf a k
+lean-low {a} h k l = omega (arithℤ, dif (pad a k) (pos k), sum (pad a 0) (pos k), spread (h .rising) k 0 k (omega arith) l, h .columns 0 (omega arith) .low)
+
+lean-high : {a : List ℤ} → AcceptedRow a → (k : ℕ) → k < length a → leanOf a k ≤ℤ lastColumn
+lean-high {a} h k l = omega (arithℤ, dif (pad a k) (pos k), h .columns k l .high)
+
+-- below the number of pairs, every whole-number offset at which a legal wiring exists is an accepted one
+pub wired-accepted : {a b : List ℤ} → AcceptedRows a b → (s : ℕ) (d : ℤ) → s < length a → HasWiring a b s d → AcceptedOffset d
+wired-accepted {a} {b} h s d l w =
+    let f = wiring-exactly h s d .0 w in
+    let x = leanOf a in
+    let y = leanOf b in
+    let e = h .equal in
+    record {
+      low = omega (arithℤ, f .low 0 (omega arith), dif (x 0) (y (0 + s)), lean-low (h .bottom) 0 (omega arith), lean-high (h .top) (0 + s) (omega arith));
+      high = omega (arithℤ, f .high 0 (omega arith), dif (x (0 + s)) (y 0), lean-high (h .bottom) (0 + s) (omega arith), lean-low (h .top) 0 (omega arith));
+    }
+
+-- a least separation there always is: its refusals are those of the checks
+least-never : (a b : List ℤ) (d : ℤ) (r : Refusal) → NoLeast r ≡ leastAnswer a b d → refusalNumbers r .refusal ≡ 10 → ⊥
+least-never a b d r e z =
+    let s = leastOf (leanOf a) (leanOf b) d (length a) in
+    go (checkOffset a b d) (early-shift a b d) s (misfitOf a b (s - 1) d) (ap (λ (l : Least). leastNumbers l .refusal) e)
+  where
+    go : (c : Checked) → Early 7 c → (s : ℕ) (m : Misfit) → refusalNumbers r .refusal ≡ leastNumbers (unlessRefused c (shown s m)) .refusal → ⊥
+    go (Refused q) l s m e = omega arith
+    go Accepted l zero m e = omega arith
+    go Accepted l (suc s) None e = omega arith
+    go Accepted l (suc s) (At i k) e = omega arith
+
+-- and so there is a best one
+best-never : (a b : List ℤ) (before : List ℕ) (r : Refusal) → NoBest r ≡ bestAnswer a b before → refusalNumbers r .refusal ≡ 11 → ⊥
+best-never a b before r e z = go (checkRows a b) (early-rows a b) (ltb (length before) (length (ladderOf a b))) (ap (λ (q : Best). bestNumbers q .refusal) e)
+  where
+    go : (c : Checked) → Early 5 c → (t : Bool) → refusalNumbers r .refusal ≡ bestNumbers (unlessRows c (roomOr t (plannedOf a b))) .refusal → ⊥
+    go (Refused q) l t e = omega arith
+    go Accepted l true e = omega arith
+    go Accepted l false e = omega arith
+
+-- refused although the separation is accepted: no offset fits
+range-never : (a b : List ℤ) (s : ℕ) (r : Refusal) → NoRange r ≡ offsetsAnswer a b s → AcceptedTracks a b s → refusalNumbers r .refusal ≡ 11
+range-never a b s r e t = go (decLt s (length a))
+  where
+    number : (q : Offsets) → rangeFound (length a) (leanOf a) (leanOf b) s ≡ q → refusalNumbers r .refusal ≡ offsetsNumbers q .refusal
+    number q f = ap (λ (o : Offsets). offsetsNumbers o .refusal) (rw (tracks-accepted a b s t) at e ∙ f)
+
+    tested : s < length a → (u : Bool) → ltZ (rangeOf (length a) (leanOf a) (leanOf b) s .high) (rangeOf (length a) (leanOf a) (leanOf b) s .low) ≡ u → refusalNumbers r .refusal ≡ 11
+    tested l true f = number _ (empty-range (length a) (leanOf a) (leanOf b) s l f)
+    tested l false f = absurd (numbered r (number _ (some-range (length a) (leanOf a) (leanOf b) s l f)))
+
+    go : Dec (s < length a) → refusalNumbers r .refusal ≡ 11
+    go (yes l) = tested l (ltZ (rangeOf (length a) (leanOf a) (leanOf b) s .high) (rangeOf (length a) (leanOf a) (leanOf b) s .low)) refl
+    go (no l) = absurd (numbered r (number _ (past-all (length a) (leanOf a) (leanOf b) s (omega arith))))
+
+-- twice as many pairs have one level more, so 2,048 pairs have 12
+abbrev doubled : ℕ → ℕ
+doubled zero = 1
+doubled (suc k) = doubled k + doubled k
+
+levels-few : (k m : ℕ) → 1 ≤ m → m ≤ doubled k → levels m ≤ suc k
+levels-few zero m l h = let e : m ≡ 1 = omega arith in rw (e, one-level) (omega arith)
+levels-few (suc k) m l h = go (decLt 1 m) (levels-few k (half m))
+  where
+    go : Dec (1 < m) → (1 ≤ half m → half m ≤ doubled k → levels (half m) ≤ suc k) → levels m ≤ suc (suc k)
+    go (yes g) less = rw (more-levels m g) (omega (arith, less (omega arith) (omega arith)))
+    go (no g) less = let e : m ≡ 1 = omega arith in rw (e, one-level) (omega arith)
+
+ladder-room : (a b : List ℤ) → AcceptedRows a b → length (ladderOf a b) ≤ 24
+ladder-room a b h = omega (arith, ladder-length (length a) (leanOf a) (leanOf b) (h .some), levels-few 11 (length a) (h .some) (h .few))
+
+module _ (a b : List ℤ) where
+  pub fit-plan : (s : ℕ) (d : ℤ) (c : Checked) → FitAnswer a b s d c → PlanAnswer (Fit s d) a b (fitPlan s d c)
+  fit-plan s d Accepted h =
+      let w = h .fits .0 refl in
+      record {
+        answer = ap (fitPlan s d) (h .answer);
+        accepts = ((λ z. w), (λ z. refl));
+        means = λ z. record { named = (refl, refl, refl); fits = w .1 };
+        prevents = λ z. absurd (omega arith);
+        rows = λ z. w .0 .rows;
+        drawable = λ z. w;
+        known = omega arith;
+        equal = λ e z. omega arith;
+      }
+  fit-plan s d (Refused r) h =
+      let k = rw (← h .answer) at (known-fit a b s d) in
+      record {
+        answer = ap (fitPlan s d) (h .answer);
+        accepts = h .fits;
+        means = λ z. absurd (numbered r z);
+        prevents = λ z. (h .prevents z, h .witness z);
+        rows = λ z. absurd (numbered r z);
+        drawable = λ z. absurd (numbered r z);
+        known = k .few;
+        equal = k .equal;
+      }
+
+  pub least-plan : (d : ℤ) (l : Least) → LeastAnswer a b d l → PlanAnswer (Leastwise d) a b (leastPlan d l)
+  least-plan d (NoLeast r) h =
+      let k = rw (← h .answer) at (known-least a b d) in
+      record {
+        answer = ap (leastPlan d) (h .answer);
+        accepts = ((λ z. absurd (numbered r z)), (λ w. h .accepts .1 (w .0)));
+        means = λ z. absurd (numbered r z);
+        prevents = λ z. least-never a b d r (h .answer) z;
+        rows = λ z. absurd (numbered r z);
+        drawable = λ z. absurd (numbered r z);
+        known = k .few;
+        equal = k .equal;
+      }
+  least-plan d Straight h =
+      let k = h .accepts .0 refl in
+      record {
+        answer = ap (leastPlan d) (h .answer);
+        accepts = ((λ z. (k, tt)), (λ w. refl));
+        means = λ z. record { named = (refl, refl); within = h .within refl; fits = h .fits refl; least = h .least refl; witness = h .witness refl };
+        prevents = λ z. omega arith;
+        rows = λ z. k .rows;
+        drawable = λ z. (record { rows = k .rows; tracks = omega arith; offset = k .offset }, h .fits refl);
+        known = omega arith;
+        equal = λ e z. omega arith;
+      }
+  least-plan d (Tracks s i side) h =
+      let k = h .accepts .0 refl in
+      record {
+        answer = ap (leastPlan d) (h .answer);
+        accepts = ((λ z. (k, tt)), (λ w. refl));
+        means = λ z. record { named = (refl, refl); within = h .within refl; fits = h .fits refl; least = h .least refl; witness = h .witness refl };
+        prevents = λ z. omega arith;
+        rows = λ z. k .rows;
+        drawable = λ z. (record { rows = k .rows; tracks = omega (arith, h .within refl, k .rows .few); offset = k .offset }, h .fits refl);
+        known = omega arith;
+        equal = λ e z. omega arith;
+      }
+
+  pub range-plan : (s : ℕ) (q : Offsets) → OffsetsAnswer a b s q → PlanAnswer (Range s) a b (rangePlan s q)
+  range-plan s (NoRange r) h =
+      let k = rw (← h .answer) at (known-range a b s) in
+      record {
+        answer = ap (rangePlan s) (h .answer);
+        accepts = ((λ z. absurd (numbered r z)), (λ w. absurd (h .none .0 (range-never a b s r (h .answer) (w .0)) .1 (w .1 .0) (w .1 .1))));
+        means = λ z. absurd (numbered r z);
+        prevents = λ z. h .none .0 z .1;
+        rows = λ z. absurd (numbered r z);
+        drawable = λ z. absurd (numbered r z);
+        known = k .few;
+        equal = k .equal;
+      }
+  range-plan s (Offered r) h =
+      record {
+        answer = ap (rangePlan s) (h .answer);
+        accepts = ((λ z. (k, (r .low, fits))), (λ w. refl));
+        means = λ z. record { named = refl; some = h .some refl; exactly = h .exactly refl; every = h .every refl };
+        prevents = λ z. absurd (omega arith);
+        rows = λ z. k .rows;
+        drawable = λ z. (record { rows = k .rows; tracks = k .tracks; offset = accepted (decLt s (length a)) }, fits);
+        known = omega arith;
+        equal = λ e z. omega arith;
+      }
+    where
+      k : AcceptedTracks a b s
+      k = h .asked .0 refl
+
+      wired : Dec (s < length a) → HasWiring a b s (r .low)
+      wired (yes l) = h .exactly refl l (r .low) .1 (record { low = omega arithℤ; high = h .some refl })
+      wired (no l) = h .every refl (omega arith) .1 (r .low)
+
+      fits : HasWiring a b s (r .low)
+      fits = wired (decLt s (length a))
+
+      accepted : Dec (s < length a) → AcceptedOffset (r .low)
+      accepted (yes l) = wired-accepted (k .rows) s (r .low) l fits
+      accepted (no l) = let e = h .every refl (omega arith) .0 in rw (ap (λ (o : OffsetRange). o .low) e) (record { low = omega arithℤ; high = omega arithℤ })
+
+  pub best-plan : (before after : List ℕ) (q : Best) → before ≡ replicate 24 0 → BestAnswer a b before after q → PlanAnswer Bestwise a b (bestNumbers q)
+  best-plan before after (NoBest r) e h =
+      let k = rw (← h .answer) at (known-best a b before) in
+      record {
+        answer = ap bestNumbers (h .answer) ∙ ap (λ (l : List ℕ). bestNumbers (bestAnswer a b l)) e;
+        accepts = ((λ z. absurd (numbered r z)), (λ w. h .accepts .1 (w .0, rw e (ladder-room a b (w .0)))));
+        means = λ z. absurd (numbered r z);
+        prevents = λ z. best-never a b before r (h .answer) z;
+        rows = λ z. absurd (numbered r z);
+        drawable = λ z. absurd (numbered r z);
+        known = k .few;
+        equal = k .equal;
+      }
+  best-plan before after (Found p) e h =
+      let k = h .accepts .0 refl .0 in
+      let w = h .exactly refl (p .range .low) .1 (record { low = omega arithℤ; high = h .some refl }) in
+      record {
+        answer = ap bestNumbers (h .answer) ∙ ap (λ (l : List ℕ). bestNumbers (bestAnswer a b l)) e;
+        accepts = ((λ z. (k, tt)), (λ w. refl));
+        means = λ z. record { some = h .some refl; exactly = h .exactly refl; none = h .none refl; within = h .within refl; fixed = h .fixed refl; cheap = h .cheap refl };
+        prevents = λ z. omega arith;
+        rows = λ z. k;
+        drawable = λ z. (record { rows = k; tracks = omega (arith, h .below refl, k .few); offset = wired-accepted k (p .separation) (p .range .low) (h .below refl) w }, w);
+        known = omega arith;
+        equal = λ e z. omega arith;
+      }

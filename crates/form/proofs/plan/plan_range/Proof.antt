@@ -1,0 +1,43 @@
+use Rattle.whole.proofs.Machine.{back}
+use Rattle.form.proofs.Plans.{range-plan}
+use borrow.Author.Needs.{needs}
+use Rattle.form.proofs.plan.plan_range.Statement.{statement}
+use Rattle.form.proofs.plan.plan_range.Tie as tie
+
+range-at-requires : tie.Need-range-at-requires
+range-at-requires c κs = search needs
+
+enum-known-r : tie.Need-enum-known-r
+enum-known-r c = search needs
+
+planned-requires : tie.Need-planned-requires
+planned-requires c κs = search needs
+
+enum-known-r-2 : tie.Need-enum-known-r-2
+enum-known-r-2 c = search needs
+
+numbers-requires : tie.Need-numbers-requires
+numbers-requires c κs = search needs
+
+returns : tie.Need-returns
+returns c =
+    let r = c .before .before .before .before .r .given .0 .0 in
+    let low = back (r .low) (c .before .before .struct-told .given .0 .1) in
+    let high = back (r .high) (c .before .struct-told2 .given .1 .0 .1) in
+    rw (rw (low, high) at (c .planned .ensures)) (range-plan _ _ _ _ (rw (c .before .before .before .before .r .given .1) at (c .before .before .before .before .before .before .range-at .ensures)))
+
+returns-2 : tie.Need-returns-2
+returns-2 c =
+    rw (c .numbers .ensures) (range-plan _ _ _ _ (rw (c .before .before .r2 .given .1) at (c .before .before .before .before .range-at .ensures)))
+
+pub plan-range-spec : {M : Type 1} → statement M
+plan-range-spec =
+    tie.close
+    (tie.spec
+    range-at-requires
+    enum-known-r
+    planned-requires
+    enum-known-r-2
+    numbers-requires
+    returns
+    returns-2)

@@ -1,0 +1,4 @@
+pub mod Wish
+pub mod Plan
+pub mod Line
+pub mod Table

@@ -1,0 +1,8 @@
+-- What the floors above cite: Places says where the columns of a route stand, Legal that no fault is legality, Faults what the search finds, and Answers
+-- what the calls promise, with the laws that join them. Wires and Quick are the way there.
+pub mod Places
+mod Wires
+pub mod Faults
+pub mod Legal
+mod Quick
+pub mod Answers

@@ -1,0 +1,9 @@
+use Rattle.route.proofs.Faults.{bits-differ}
+use Rattle.route.proofs.checking.differs.Statement.{statement}
+use Rattle.route.proofs.checking.differs.Tie as tie
+
+returns : tie.Need-returns
+returns c = bits-differ (c .args .x) (c .args .y) (c .fits .x) (c .fits .y)
+
+pub differs-spec : {M : Type 1} → statement M
+differs-spec = tie.close (tie.spec returns)

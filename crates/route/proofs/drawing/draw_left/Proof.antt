@@ -1,0 +1,75 @@
+use native.Mathlib.Omega.{arith}
+use borrow.Author.Needs.{needs}
+use mir.Syntax.{w32}
+use mir.ValLaws.{toZ-ofZ}
+use Rattle.wiring.specs.Wiring.{pad}
+use Rattle.wiring.specs.Drawing.{leftward}
+use Rattle.route.proofs.Places.{straight-on}
+use Rattle.route.proofs.Wires.{leftward-free}
+use Rattle.route.proofs.drawing.draw_left.Statement.{statement}
+use Rattle.route.proofs.drawing.draw_left.Tie as tie
+
+add-fewer : tie.Need-add-fewer
+add-fewer c = search needs
+
+add-fewer-2 : tie.Need-add-fewer-2
+add-fewer-2 c = search needs
+
+fewer-requires : tie.Need-fewer-requires
+fewer-requires c κs = search needs
+
+held-left-requires : tie.Need-held-left-requires
+held-left-requires c κs = search needs
+
+add-straight : tie.Need-add-straight
+add-straight c = search needs
+
+sub-straight : tie.Need-sub-straight
+sub-straight c = search needs
+
+mul-straight : tie.Need-mul-straight
+mul-straight c = search needs
+
+sub-straight-2 : tie.Need-sub-straight-2
+sub-straight-2 c = search needs
+
+part-straight-start : tie.Need-part-straight-start
+part-straight-start c = search needs
+
+part-straight-end : tie.Need-part-straight-end
+part-straight-end c = search needs
+
+straight-requires : tie.Need-straight-requires
+straight-requires c κs = search needs
+
+same-length : tie.Need-same-length
+same-length c = search needs
+
+returns : tie.Need-returns
+returns c =
+    let h = c .before .before .before .before in
+    let k = h .before .before in
+    let s = k .before .args in
+    let e = toZ-ofZ w32 (s .c) (k .before .fits .c) in
+    straight-on (leftward (pad (s .a .now)) (s .c) (s .i)) (s .c) (k .fewer .result) (s .s) (s .out .now) _ _ (omega (arith, k .fewer .ensures)) (omega arith)
+    (λ t m l. leftward-free 0 (pad (s .a .now)) (s .c) (s .i) t (omega (arith, k .fewer .ensures)))
+    (rw e at (h .held-left .ensures))
+    (simp e at (c .before .straight .ensures))
+
+pub draw-left-spec : {M : Type 1} → statement M
+draw-left-spec =
+    tie.close
+    (tie.spec
+    add-fewer
+    add-fewer-2
+    fewer-requires
+    held-left-requires
+    add-straight
+    sub-straight
+    mul-straight
+    sub-straight-2
+    part-straight-start
+    part-straight-end
+    straight-requires
+    same-length
+    returns)

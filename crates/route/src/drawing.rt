@@ -1,0 +1,183 @@
+// Drawing a route: the columns on which wires enter each track (01, "Drawing and checking").
+ghost use mathlib.Core.Path.{_≡_};
+ghost use mathlib.Core.List.{_++_};
+ghost use Prim.Native.Nat.{_+_, _*_, _≤_, _<_, min};
+ghost use lib.ListN.{length, drop};
+ghost use lib.IntN.{pos, _+ℤ_, _-ℤ_};
+ghost use Rattle.wiring.specs.Wiring.{pad, topPad};
+ghost use Rattle.wiring.specs.Drawing.{rightward, leftward};
+ghost use Rattle.jumper.specs.Limits.{maxPairs, maxTracks, AcceptedOffset};
+ghost use Rattle.jumper.specs.Rows.{AcceptedRow};
+ghost use Rattle.jumper.specs.Asked.{Asked};
+ghost use Rattle.route.specs.Table.{columns};
+ghost use Rattle.route.specs.Draw.{wireDrawn, allDrawn, DrawWireAnswer, DrawAllAnswer};
+use fit::misfit::fit;
+use jumper::asked::check_asked;
+use jumper::refusal::Refusal;
+use jumper::rows::Checked;
+
+// Wire `wire` into s + 1 places: refusals 1 to 7, WIRE, BUFFER, NOFIT.
+pub fn draw_wire(a: &[i32], b: &[i32], s: usize, d: i32, wire: usize, out: &mut [i32]) -> Checked
+    ensures { λ r. ⌜ DrawWireAnswer (now (a .entry)) (now (b .entry)) s d wire (now (out .entry)) (now (out .exit)) r ⌝ }
+{
+    match check_asked(a, b, s, d) {
+        Checked::Refused(r) => Checked::Refused(r),
+        Checked::Accepted => {
+            if a.len() <= wire {
+                return Checked::Refused(Refusal::Wire);
+            }
+            if out.len() <= s {
+                return Checked::Refused(Refusal::Buffer);
+            }
+            match fit(a, b, s, d) {
+                Checked::Refused(r) => Checked::Refused(r),
+                Checked::Accepted => {
+                    draw_columns(a, b, s, d, wire, out);
+                    Checked::Accepted
+                }
+            }
+        }
+    }
+}
+
+// All wires, wire after wire, into n(s + 1) places: refusals 1 to 7, BUFFER, NOFIT.
+pub fn draw_all(a: &[i32], b: &[i32], s: usize, d: i32, out: &mut [i32]) -> Checked
+    ensures { λ r. ⌜ DrawAllAnswer (now (a .entry)) (now (b .entry)) s d (now (out .entry)) (now (out .exit)) r ⌝ }
+{
+    match check_asked(a, b, s, d) {
+        Checked::Refused(r) => Checked::Refused(r),
+        Checked::Accepted => {
+            if out.len() < places(a.len(), s) {
+                return Checked::Refused(Refusal::Buffer);
+            }
+            match fit(a, b, s, d) {
+                Checked::Refused(r) => Checked::Refused(r),
+                Checked::Accepted => {
+                    draw_wires(a, b, s, d, out);
+                    Checked::Accepted
+                }
+            }
+        }
+    }
+}
+
+// As far right as pad k lets a wire come that is t tracks up and t pads before it.
+fn right_limit(a: &[i32], k: usize, t: usize) -> i32
+    requires { ⌜ AcceptedRow (now a) × (k < length (now a)) × (t ≤ maxPairs) ⌝ }
+    ensures { λ r. ⌜ r ≡ pad (now (a .entry)) k -ℤ pos t ⌝ }
+{
+    a[k] - t as i32
+}
+
+// As far left as pad k lets a wire come that is t tracks up and t pads after it.
+fn left_limit(a: &[i32], k: usize, t: usize) -> i32
+    requires { ⌜ AcceptedRow (now a) × (k < length (now a)) × (t ≤ maxPairs) ⌝ }
+    ensures { λ r. ⌜ r ≡ pad (now (a .entry)) k +ℤ pos t ⌝ }
+{
+    a[k] + t as i32
+}
+
+// How many places the columns of n wires take.
+pub(crate) fn places(n: usize, s: usize) -> usize
+    requires { ⌜ (n ≤ maxPairs) × (s ≤ maxTracks) ⌝ }
+    ensures { λ r. ⌜ r ≡ n * (s + 1) ⌝ }
+{
+    n * (s + 1)
+}
+
+fn fewer(x: usize, y: usize) -> usize
+    ensures { λ r. ⌜ r ≡ min x y ⌝ }
+{
+    if x < y { x } else { y }
+}
+
+// The first k columns of a wire from pad i to column c, to its right, while pads hold it.
+fn held_right(a: &[i32], c: i32, i: usize, k: usize, out: &mut [i32])
+    requires { ⌜ AcceptedRow (now a) × (length (now a) ≤ maxPairs) × (i + k ≤ length (now a)) × (k ≤ length (now out)) ⌝ }
+    ensures { λ r. ⌜ now (out .exit) ≡ columns (rightward (length (now (a .entry))) (pad (now (a .entry))) c i) k ++ drop k (now (out .entry)) ⌝ }
+{
+    let mut t: usize = 0;
+    while t < k {
+        out[t] = whole::smaller(c, right_limit(a, i + t, t));
+        t += 1;
+    }
+}
+
+// The same to its left.
+fn held_left(a: &[i32], c: i32, i: usize, k: usize, out: &mut [i32])
+    requires { ⌜ AcceptedRow (now a) × (length (now a) ≤ maxPairs) × (i < length (now a)) × (k ≤ i + 1) × (k ≤ length (now out)) ⌝ }
+    ensures { λ r. ⌜ now (out .exit) ≡ columns (leftward (pad (now (a .entry))) c i) k ++ drop k (now (out .entry)) ⌝ }
+{
+    let mut t: usize = 0;
+    while t < k {
+        out[t] = whole::larger(c, left_limit(a, i - t, t));
+        t += 1;
+    }
+}
+
+// Where no pad holds it any more, the wire goes straight up.
+fn straight(c: i32, k: usize, out: &mut [i32])
+    requires { ⌜ k ≤ length (now out) ⌝ }
+    ensures { λ r. ⌜ now (out .exit) ≡ columns (λ t. c) k ++ drop k (now (out .entry)) ⌝ }
+{
+    let mut t: usize = 0;
+    while t < k {
+        out[t] = c;
+        t += 1;
+    }
+}
+
+fn draw_right(a: &[i32], c: i32, i: usize, s: usize, out: &mut [i32])
+    requires { ⌜ AcceptedRow (now a) × (length (now a) ≤ maxPairs) × (i < length (now a)) × (s ≤ maxTracks) × (s < length (now out)) ⌝ }
+    ensures { λ r. ⌜ now (out .exit) ≡ columns (rightward (length (now (a .entry))) (pad (now (a .entry))) c i) (s + 1) ++ drop (s + 1) (now (out .entry)) ⌝ }
+{
+    let k = fewer(s + 1, a.len() - i);
+    held_right(a, c, i, k, out);
+    straight(c, s + 1 - k, &mut out[k..]);
+}
+
+fn draw_left(a: &[i32], c: i32, i: usize, s: usize, out: &mut [i32])
+    requires { ⌜ AcceptedRow (now a) × (length (now a) ≤ maxPairs) × (i < length (now a)) × (s ≤ maxTracks) × (s < length (now out)) ⌝ }
+    ensures { λ r. ⌜ now (out .exit) ≡ columns (leftward (pad (now (a .entry))) c i) (s + 1) ++ drop (s + 1) (now (out .entry)) ⌝ }
+{
+    let k = fewer(s + 1, i + 1);
+    held_left(a, c, i, k, out);
+    straight(c, s + 1 - k, &mut out[k..]);
+}
+
+// The column of top pad i.
+pub(crate) fn top_pad(b: &[i32], i: usize, d: i32) -> i32
+    requires { ⌜ AcceptedRow (now b) × AcceptedOffset d × (i < length (now b)) ⌝ }
+    ensures { λ r. ⌜ r ≡ topPad (now (b .entry)) d i ⌝ }
+{
+    b[i] + d
+}
+
+// Wire i into the first s + 1 places. The direction is chosen once for the whole wire.
+fn draw_columns(a: &[i32], b: &[i32], s: usize, d: i32, i: usize, out: &mut [i32])
+    requires { ⌜ Asked (now a) (now b) s d × (i < length (now a)) × (s < length (now out)) ⌝ }
+    ensures { λ r. ⌜ now (out .exit) ≡ wireDrawn (now (a .entry)) (now (b .entry)) s d i (now (out .entry)) ⌝ }
+{
+    let c = top_pad(b, i, d);
+    if c < a[i] {
+        draw_left(a, c, i, s, out);
+    } else {
+        draw_right(a, c, i, s, out);
+    }
+}
+
+// Wire after wire into the first n(s + 1) places. The place of the next wire is kept, so that no product is taken.
+fn draw_wires(a: &[i32], b: &[i32], s: usize, d: i32, out: &mut [i32])
+    requires { ⌜ Asked (now a) (now b) s d × (length (now a) * (s + 1) ≤ length (now out)) ⌝ }
+    ensures { λ r. ⌜ now (out .exit) ≡ allDrawn (now (a .entry)) (now (b .entry)) s d (now (out .entry)) ⌝ }
+{
+    let n = a.len();
+    let w = s + 1;
+    let mut at: usize = 0;
+    let mut i: usize = 0;
+    while i < n {
+        draw_columns(a, b, s, d, i, &mut out[at..]);
+        at += w;
+        i += 1;
+    }
+}

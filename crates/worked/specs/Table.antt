@@ -1,0 +1,112 @@
+-- 01's jumpers worked by hand, those marked with a star, as one table: what the definitions tell, beside what 01 says.
+-- That the two are equal in every case is the theorem `worked` of proofs/Worked.antt.
+use mathlib.Core.List.{List, [], _∷_, map}
+use Prim.Native.Nat.{ℕ}
+use lib.ListN.{replicate, getD}
+use lib.IntN.{ℤ, pos, negsuc}
+use Rattle.jumper.specs.Rows.{checkedNumbers}
+use Rattle.jumper.specs.declared.refusal.Numbers.{Numbers}
+use Rattle.fit.specs.Misfit.{fitOf}
+use Rattle.fit.specs.Least.{leastNumbers, leastAnswer}
+use Rattle.fit.specs.Offsets.{offsetsNumbers, offsetsAnswer}
+use Rattle.best.specs.Best.{bestNumbers, ladderOf, bestAnswer}
+use Rattle.route.specs.Draw.{allDrawn}
+
+pub record Jumper : Type 0 where
+  pub bottom : List ℤ
+  pub top : List ℤ
+
+-- columns, and whole numbers in general, from numbers that aren't negative
+abbrev pub whole : List ℕ → List ℤ
+whole ns = map pos ns
+
+abbrev pub rows : List ℕ → List ℕ → Jumper
+rows a b = record { bottom = whole a; top = whole b }
+
+-- "J = rows 0,1,4,5 and 1,2,3,4. K = 0,5 and 0,5. S = 0,1,2,3 and 1,2,3,4."
+abbrev pub J : Jumper
+J = rows (0 ∷ 1 ∷ 4 ∷ 5 ∷ []) (1 ∷ 2 ∷ 3 ∷ 4 ∷ [])
+
+abbrev pub K : Jumper
+K = rows (0 ∷ 5 ∷ []) (0 ∷ 5 ∷ [])
+
+abbrev pub S : Jumper
+S = rows (0 ∷ 1 ∷ 2 ∷ 3 ∷ []) (1 ∷ 2 ∷ 3 ∷ 4 ∷ [])
+
+-- what the definitions tell, and what is said by hand
+pub record Case : Type 0 where
+  pub told : List ℤ
+  pub hand : List ℤ
+
+abbrev pub case : List ℤ → List ℤ → Case
+case t h = record { told = t; hand = h }
+
+-- the result numbers in one row, so that a case also says that all others are 0
+abbrev pub result : (refusal place second separation : ℕ) (lowest highest : ℤ) (pair side count : ℕ) → List ℤ
+result r p q s l h i k c = pos r ∷ pos p ∷ pos q ∷ pos s ∷ l ∷ h ∷ pos i ∷ pos k ∷ pos c ∷ []
+
+abbrev pub resultOf : Numbers → List ℤ
+resultOf n = result (n .refusal) (n .place) (n .second) (n .separation) (n .lowest) (n .highest) (n .pair) (n .side) (n .count)
+
+-- the questions that 01 asks of a jumper; the best call is lent room for a ladder of 2,048 pairs
+abbrev pub leastAt : Jumper → ℤ → List ℤ
+leastAt j d = resultOf (leastNumbers (leastAnswer (j .bottom) (j .top) d))
+
+abbrev pub fitAt : Jumper → ℕ → ℤ → List ℤ
+fitAt j s d = resultOf (checkedNumbers (fitOf (j .bottom) (j .top) s d))
+
+abbrev pub rangeAt : Jumper → ℕ → List ℤ
+rangeAt j s = resultOf (offsetsNumbers (offsetsAnswer (j .bottom) (j .top) s))
+
+abbrev pub best : Jumper → List ℤ
+best j = resultOf (bestNumbers (bestAnswer (j .bottom) (j .top) (replicate 24 0)))
+
+abbrev pub ladder : Jumper → List ℤ
+ladder j = whole (ladderOf (j .bottom) (j .top))
+
+abbrev pub drawnAt : Jumper → ℕ → ℤ → List ℤ
+drawnAt j s d = allDrawn (j .bottom) (j .top) s d []
+
+-- and their answers. A least separation above 0 carries the witness at one track fewer: pair and side (1 RIGHT, 2 LEFT)
+abbrev pub least : (separation pair side : ℕ) → List ℤ
+least s i k = result 0 0 0 s (pos 0) (pos 0) i k 0
+
+abbrev pub noFit : (pair side : ℕ) → List ℤ
+noFit i k = result 10 0 0 0 (pos 0) (pos 0) i k 0
+
+abbrev pub range : (lowest highest : ℤ) → List ℤ
+range l h = result 0 0 0 0 l h 0 0 0
+
+abbrev pub noOffset : (low high : ℕ) → List ℤ
+noOffset l h = result 11 l h 0 (pos 0) (pos 0) 0 0 0
+
+abbrev pub found : (separation : ℕ) (lowest highest : ℤ) (count : ℕ) → List ℤ
+found s l h c = result 0 0 0 s l h 0 0 c
+
+abbrev pub table : List Case
+table =
+    -- "0 and 0, d 0: least 0." "0 and 9, d 0: least 1."
+    case (leastAt (rows (0 ∷ []) (0 ∷ [])) (pos 0)) (least 0 0 0)
+    ∷ case (leastAt (rows (0 ∷ []) (9 ∷ [])) (pos 0)) (least 1 0 1)
+    -- "0,1 and 1,2, d 0: least 2; at s 1 NOFIT, pair 0, RIGHT."
+    ∷ case (leastAt (rows (0 ∷ 1 ∷ []) (1 ∷ 2 ∷ [])) (pos 0)) (least 2 0 1)
+    ∷ case (fitAt (rows (0 ∷ 1 ∷ []) (1 ∷ 2 ∷ [])) 1 (pos 0)) (noFit 0 1)
+    -- "K: range at 0 is 0..0; at 1 is -4..4; d 5, least 2; (1, -5) NOFIT, pair 0, LEFT."
+    ∷ case (rangeAt K 0) (range (pos 0) (pos 0))
+    ∷ case (rangeAt K 1) (range (negsuc 3) (pos 4))
+    ∷ case (leastAt K (pos 5)) (least 2 0 1)
+    ∷ case (fitAt K 1 (negsuc 4)) (noFit 0 2)
+    -- "S, d 0: least 4." "S best: 0, offsets -1..-1, count 12."
+    ∷ case (leastAt S (pos 0)) (least 4 0 1)
+    ∷ case (best S) (found 0 (negsuc 0) (negsuc 0) 12)
+    -- "J best: 2, offsets -1..1, count 14, ladder 4:2, 2:1, 1:0." "J at 1: NOOFFSET, 2 for the low end, 0 for the high."
+    ∷ case (best J) (found 2 (negsuc 0) (pos 1) 14)
+    ∷ case (ladder J) (whole (4 ∷ 2 ∷ 2 ∷ 1 ∷ 1 ∷ 0 ∷ []))
+    ∷ case (rangeAt J 1) (noOffset 2 0)
+    -- "J drawn at (2, 0): 0,0,1 / 1,2,2 / 4,3,3 / 5,5,4."
+    ∷ case (drawnAt J 2 (pos 0)) (whole (0 ∷ 0 ∷ 1 ∷ 1 ∷ 2 ∷ 2 ∷ 4 ∷ 3 ∷ 3 ∷ 5 ∷ 5 ∷ 4 ∷ []))
+    ∷ []
+
+-- the case at a place of the table
+abbrev pub caseAt : ℕ → Case
+caseAt k = getD table k (case [] [])

@@ -1,0 +1,64 @@
+/* Proved planning of flex jumpers, for C. Link target/staticlib/libcatalog_c.a, which `rt staticlib catalog_c` proves and writes.
+   A row is a pointer and a count of columns. No call has a precondition beyond valid pointers; a refusal writes nothing. */
+#ifndef OBRASTYN_H
+#define OBRASTYN_H
+
+#include <stddef.h>
+#include <stdint.h>
+
+/* All the result numbers of an answer; what an answer doesn't speak of is 0. */
+typedef struct {
+    uint8_t refusal;   /* 0, or 1 to 16 */
+    size_t place;      /* COLUMN, ORDER: the place; NOOFFSET: the first pair that sets the lowest; BADWIRE: the wire */
+    size_t second;     /* NOOFFSET: the first pair that sets the highest; BADWIRE: the track */
+    size_t separation;
+    int32_t lowest;
+    int32_t highest;
+    size_t pair;       /* the witness, and its side: 1 RIGHT, 2 LEFT */
+    uint8_t side;
+    size_t count;      /* differences read */
+} obrastyn_numbers;
+
+/* Refusals 1 to 5. */
+obrastyn_numbers obrastyn_rows(const int32_t *a, size_t an, const int32_t *b, size_t bn);
+/* Does separation s fit at offset d? Refusals 1 to 7, then 10. */
+obrastyn_numbers obrastyn_fit(const int32_t *a, size_t an, const int32_t *b, size_t bn, size_t s, int32_t d);
+/* The least separation at offset d. Refusals 1 to 5, then 7. */
+obrastyn_numbers obrastyn_least(const int32_t *a, size_t an, const int32_t *b, size_t bn, int32_t d);
+/* The offsets that fit at separation s. Refusals 1 to 6, then 11. */
+obrastyn_numbers obrastyn_range(const int32_t *a, size_t an, const int32_t *b, size_t bn, size_t s);
+/* The best separation; the ladder goes to the front of the buffer (24 numbers are always enough). Refusals 1 to 5, then 9. */
+obrastyn_numbers obrastyn_best(const int32_t *a, size_t an, const int32_t *b, size_t bn, size_t *ladder, size_t room);
+/* One wire into s + 1 places. Refusals 1 to 10. */
+obrastyn_numbers obrastyn_draw_wire(const int32_t *a, size_t an, const int32_t *b, size_t bn, size_t s, int32_t d, size_t wire,
+                                    int32_t *out, size_t room);
+/* All wires, wire after wire, into n(s + 1) places. Refusals 1 to 7, 9 and 10. */
+obrastyn_numbers obrastyn_draw_all(const int32_t *a, size_t an, const int32_t *b, size_t bn, size_t s, int32_t d, int32_t *out,
+                                   size_t room);
+/* Is a table of n(s + 1) columns a legal wiring? Refusals 1 to 7, 9 and 16. */
+obrastyn_numbers obrastyn_check(const int32_t *a, size_t an, const int32_t *b, size_t bn, size_t s, int32_t d, const int32_t *table,
+                                size_t room);
+
+/* Where the stretch at fault lies: row 0 is the bottom row, 1 the top row; no pads where there is no misfit. */
+typedef struct {
+    uint8_t row;
+    size_t start;
+    size_t pads;
+} obrastyn_place;
+obrastyn_place obrastyn_stretch(const int32_t *a, size_t an, const int32_t *b, size_t bn, size_t s, int32_t d);
+
+/* One line of an order form. separation 65535 is "least", offset INT32_MIN is "best". */
+typedef struct {
+    size_t bottom; /* where its pads start in each pool, and how many pairs they are */
+    size_t top;
+    size_t pairs;
+    uint32_t separation;
+    int32_t offset;
+    obrastyn_numbers answer;
+} obrastyn_line;
+
+/* From target/staticlib/libform.a (`rt staticlib form`). 0, or 12 (LINE) for no such line or over 64 lines, and then nothing is written. */
+uint8_t answer_line(obrastyn_line *table, size_t lines, size_t k, const int32_t *a, size_t an, const int32_t *b, size_t bn);
+uint8_t answer_all(obrastyn_line *table, size_t lines, const int32_t *a, size_t an, const int32_t *b, size_t bn);
+
+#endif

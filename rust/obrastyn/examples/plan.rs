@@ -1,0 +1,18 @@
+//! Plans the jumper J of document 01 and prints its route.
+//! `cargo run --release --offline --example plan`, after `rt staticlib catalog_c`.
+fn main() {
+    let (below, above) = ([0, 1, 4, 5], [1, 2, 3, 4]);
+    let mut ladder = [0usize; 24];
+    let best = obrastyn::best(&below, &above, &mut ladder);
+    println!("rows {below:?} and {above:?}");
+    println!("best separation {}, offsets {} to {}, {} differences read", best.separation, best.lowest, best.highest, best.count);
+    let s = best.separation;
+    let mut route = vec![0; below.len() * (s + 1)];
+    obrastyn::draw_all(&below, &above, s, 0, &mut route);
+    for (wire, columns) in route.chunks(s + 1).enumerate() {
+        println!("wire {wire} enters tracks 0 to {s} on columns {columns:?}");
+    }
+    let told = obrastyn::fit(&below, &above, 1, 0);
+    println!("at separation 1, offset 0: refusal {} (NOFIT), pair {}, side {}", told.refusal, told.pair, told.side);
+    println!("the checker says of the route: refusal {}", obrastyn::check(&below, &above, s, 0, &route).refusal);
+}

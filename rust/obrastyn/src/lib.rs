@@ -1,0 +1,145 @@
+//! Proved planning of flex jumpers: one copper layer, a row of pads at each end, pad k below joined to pad k above.
+//!
+//! Every function here is a thin, safe wrapper over the static library that `rt staticlib catalog_c` proves and writes.
+//! No call has anything to check first: every input gets an answer, and a refusal has one number and writes nothing.
+//!
+//! ```
+//! // J of document 01
+//! let (below, above) = ([0, 1, 4, 5], [1, 2, 3, 4]);
+//! let mut ladder = [0; 24];
+//! let best = obrastyn::best(&below, &above, &mut ladder);
+//! assert_eq!((best.refusal, best.separation, best.lowest, best.highest), (0, 2, -1, 1));
+//!
+//! let mut route = [0; 4 * 3];
+//! assert_eq!(obrastyn::draw_all(&below, &above, 2, 0, &mut route).refusal, 0);
+//! assert_eq!(route, [0, 0, 1, 1, 2, 2, 4, 3, 3, 5, 5, 4]);
+//! assert_eq!(obrastyn::check(&below, &above, 2, 0, &route).refusal, 0);
+//! ```
+
+/// All the result numbers of an answer (01, "What comes back"). What an answer doesn't speak of is 0.
+#[repr(C)]
+#[derive(Clone, Copy, Debug, Default, PartialEq, Eq)]
+pub struct Numbers {
+    /// 0, or the number of the refusal, 1 to 16.
+    pub refusal: u8,
+    /// The place of COLUMN and ORDER; the first pair that sets the lowest offset of NOOFFSET; the wire of BADWIRE.
+    pub place: usize,
+    /// The first pair that sets the highest offset of NOOFFSET; the track of BADWIRE.
+    pub second: usize,
+    pub separation: usize,
+    pub lowest: i32,
+    pub highest: i32,
+    /// The witness: the least pair that prevents a wiring, and its side (1 RIGHT, 2 LEFT).
+    pub pair: usize,
+    pub side: u8,
+    /// How many differences were read.
+    pub count: usize,
+}
+
+/// Where the stretch at fault lies: row 0 is the bottom row, 1 the top row; no pads where there is no misfit.
+#[repr(C)]
+#[derive(Clone, Copy, Debug, Default, PartialEq, Eq)]
+pub struct Place {
+    pub row: u8,
+    pub start: usize,
+    pub pads: usize,
+}
+
+/// The mark for "least" as a line's separation.
+pub const LEAST: u32 = 65535;
+
+/// The mark for "best" as a line's offset.
+pub const BEST: i32 = i32::MIN;
+
+/// One line of an order form: where its pads start in each pool, how many pairs they are, its wish, and its answer.
+#[repr(C)]
+#[derive(Clone, Copy, Debug, Default, PartialEq, Eq)]
+pub struct Line {
+    pub bottom: usize,
+    pub top: usize,
+    pub pairs: usize,
+    /// A separation, or [`LEAST`].
+    pub separation: u32,
+    /// An offset, or [`BEST`].
+    pub offset: i32,
+    pub answer: Numbers,
+}
+
+mod raw {
+    use super::{Line, Numbers, Place};
+
+    // A slice of Rattle's is two arguments: a pointer and a count of elements. include/obrastyn.h says the same for C.
+    extern "C" {
+        pub fn obrastyn_rows(a: *const i32, an: usize, b: *const i32, bn: usize) -> Numbers;
+        pub fn obrastyn_fit(a: *const i32, an: usize, b: *const i32, bn: usize, s: usize, d: i32) -> Numbers;
+        pub fn obrastyn_least(a: *const i32, an: usize, b: *const i32, bn: usize, d: i32) -> Numbers;
+        pub fn obrastyn_range(a: *const i32, an: usize, b: *const i32, bn: usize, s: usize) -> Numbers;
+        pub fn obrastyn_stretch(a: *const i32, an: usize, b: *const i32, bn: usize, s: usize, d: i32) -> Place;
+        pub fn obrastyn_best(a: *const i32, an: usize, b: *const i32, bn: usize, ladder: *mut usize, room: usize) -> Numbers;
+        pub fn obrastyn_draw_wire(a: *const i32, an: usize, b: *const i32, bn: usize, s: usize, d: i32, wire: usize, out: *mut i32, room: usize) -> Numbers;
+        pub fn obrastyn_draw_all(a: *const i32, an: usize, b: *const i32, bn: usize, s: usize, d: i32, out: *mut i32, room: usize) -> Numbers;
+        pub fn obrastyn_check(a: *const i32, an: usize, b: *const i32, bn: usize, s: usize, d: i32, table: *const i32, room: usize) -> Numbers;
+        // The two calls over a table of records, from the archive of crate `form`.
+        pub fn answer_line(table: *mut Line, lines: usize, k: usize, a: *const i32, an: usize, b: *const i32, bn: usize) -> u8;
+        pub fn answer_all(table: *mut Line, lines: usize, a: *const i32, an: usize, b: *const i32, bn: usize) -> u8;
+    }
+}
+
+/// The row check: refusals 1 to 5. COLUMN and ORDER carry a place, the number of pairs more for the top row.
+pub fn rows(a: &[i32], b: &[i32]) -> Numbers {
+    unsafe { raw::obrastyn_rows(a.as_ptr(), a.len(), b.as_ptr(), b.len()) }
+}
+
+/// Whether a legal wiring exists at separation `s` and offset `d`: refusals 1 to 7, then NOFIT with its witness.
+pub fn fit(a: &[i32], b: &[i32], s: usize, d: i32) -> Numbers {
+    unsafe { raw::obrastyn_fit(a.as_ptr(), a.len(), b.as_ptr(), b.len(), s, d) }
+}
+
+/// The least separation at offset `d`, and above 0 the witness at one track fewer: refusals 1 to 5, then 7.
+pub fn least(a: &[i32], b: &[i32], d: i32) -> Numbers {
+    unsafe { raw::obrastyn_least(a.as_ptr(), a.len(), b.as_ptr(), b.len(), d) }
+}
+
+/// The offsets at which a legal wiring exists at separation `s`: refusals 1 to 6, then NOOFFSET.
+pub fn range(a: &[i32], b: &[i32], s: usize) -> Numbers {
+    unsafe { raw::obrastyn_range(a.as_ptr(), a.len(), b.as_ptr(), b.len(), s) }
+}
+
+/// The stretch at fault, as that part of the caller's own row: for a misfit the pads i to i + s of the row in which they
+/// span fewer columns, the bottom row if equal; in every other case an empty part at the bottom row's start.
+pub fn stretch<'r>(a: &'r [i32], b: &'r [i32], s: usize, d: i32) -> &'r [i32] {
+    let place = unsafe { raw::obrastyn_stretch(a.as_ptr(), a.len(), b.as_ptr(), b.len(), s, d) };
+    &(if place.row == 0 { a } else { b })[place.start..place.start + place.pads]
+}
+
+/// The best separation, its offsets and the count of differences read: refusals 1 to 5, then BUFFER. The ladder (size and
+/// best separation of each level, from all pairs down to one; at most 24 numbers) is written in front of `ladder`.
+pub fn best(a: &[i32], b: &[i32], ladder: &mut [usize]) -> Numbers {
+    unsafe { raw::obrastyn_best(a.as_ptr(), a.len(), b.as_ptr(), b.len(), ladder.as_mut_ptr(), ladder.len()) }
+}
+
+/// Wire `wire` drawn into the first `s + 1` places of `out`: refusals 1 to 7, WIRE, BUFFER, NOFIT.
+pub fn draw_wire(a: &[i32], b: &[i32], s: usize, d: i32, wire: usize, out: &mut [i32]) -> Numbers {
+    unsafe { raw::obrastyn_draw_wire(a.as_ptr(), a.len(), b.as_ptr(), b.len(), s, d, wire, out.as_mut_ptr(), out.len()) }
+}
+
+/// All wires drawn, wire after wire, into the first n(s + 1) places of `out`: refusals 1 to 7, BUFFER, NOFIT.
+pub fn draw_all(a: &[i32], b: &[i32], s: usize, d: i32, out: &mut [i32]) -> Numbers {
+    unsafe { raw::obrastyn_draw_all(a.as_ptr(), a.len(), b.as_ptr(), b.len(), s, d, out.as_mut_ptr(), out.len()) }
+}
+
+/// A table of columns from anyone, checked: refusals 1 to 7, BUFFER, then BADWIRE with the wire and track of its first fault.
+pub fn check(a: &[i32], b: &[i32], s: usize, d: i32, table: &[i32]) -> Numbers {
+    unsafe { raw::obrastyn_check(a.as_ptr(), a.len(), b.as_ptr(), b.len(), s, d, table.as_ptr(), table.len()) }
+}
+
+/// Answers line `k` of a form: its record takes its answer, a refusal included, and nothing else changes. Returns 0, or LINE
+/// (12) where `k` is no line or the table has over 64, and then writes nothing.
+pub fn answer_line(table: &mut [Line], k: usize, bottoms: &[i32], tops: &[i32]) -> u8 {
+    unsafe { raw::answer_line(table.as_mut_ptr(), table.len(), k, bottoms.as_ptr(), bottoms.len(), tops.as_ptr(), tops.len()) }
+}
+
+/// Answers every line of a form. Returns 0, or LINE (12) where the table has over 64, and then writes nothing.
+pub fn answer_all(table: &mut [Line], bottoms: &[i32], tops: &[i32]) -> u8 {
+    unsafe { raw::answer_all(table.as_mut_ptr(), table.len(), bottoms.as_ptr(), bottoms.len(), tops.as_ptr(), tops.len()) }
+}

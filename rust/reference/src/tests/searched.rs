@@ -1,0 +1,164 @@
+//! The rule of fit against a search that knows nothing of it.
+
+use super::*;
+use crate::numbers::*;
+use crate::random::*;
+use crate::search::*;
+use crate::*;
+
+/// Every rising row of n columns from 0 to `last`.
+fn all_rows(n: usize, last: i32) -> Vec<Vec<i32>> {
+    let mut found = vec![vec![]];
+    for _ in 0..n {
+        let mut longer = Vec::new();
+        for row in found {
+            for column in row.last().map_or(0, |before| before + 1)..=last {
+                let mut row = row.clone();
+                row.push(column);
+                longer.push(row);
+            }
+        }
+        found = longer;
+    }
+    found
+}
+
+/// A rising row of n columns from 0 to `last`.
+fn small_row(random: &mut Random, n: usize, last: i32) -> Vec<i32> {
+    loop {
+        let mut row: Vec<i32> = (0..n).map(|_| random.between(0, last)).collect();
+        row.sort();
+        row.dedup();
+        if row.len() == n {
+            return row;
+        }
+    }
+}
+
+#[test]
+fn every_smallest_jumper() {
+    let (mut fitting, mut misfits) = (0, 0);
+    for n in 1..=3 {
+        for a in all_rows(n, 4) {
+            for b in all_rows(n, 4) {
+                for s in 0..=3 {
+                    for d in -4..=4 {
+                        let fits = fit(&a, &b, s, d).refusal == 0;
+                        assert_eq!(
+                            fits,
+                            exists_wiring(&a, &b, s, d),
+                            "{a:?} {b:?} at ({s}, {d})"
+                        );
+                        *(if fits { &mut fitting } else { &mut misfits }) += 1;
+                    }
+                }
+            }
+        }
+    }
+    assert!(fitting > 1_000 && misfits > 1_000);
+}
+
+#[test]
+fn thousands_of_small_jumpers() {
+    let mut random = Random::new(11);
+    let (mut fitting, mut misfits) = (0, 0);
+    for _ in 0..6_000 {
+        let n = 1 + random.below(4);
+        let (a, b) = (small_row(&mut random, n, 7), small_row(&mut random, n, 7));
+        let (s, d) = (random.below(4), random.between(-6, 6));
+        let fits = fit(&a, &b, s, d).refusal == 0;
+        assert_eq!(
+            fits,
+            exists_wiring(&a, &b, s, d),
+            "{a:?} {b:?} at ({s}, {d})"
+        );
+        *(if fits { &mut fitting } else { &mut misfits }) += 1;
+    }
+    assert!(fitting > 1_000 && misfits > 1_000);
+}
+
+#[test]
+fn some_larger_jumpers_around_their_least_separation() {
+    let mut random = Random::new(12);
+    for _ in 0..150 {
+        let n = 4 + random.below(3);
+        let (a, b) = (small_row(&mut random, n, 12), small_row(&mut random, n, 12));
+        let d = random.between(-5, 5);
+        let s = least(&a, &b, d).separation;
+        if s <= 5 {
+            assert!(exists_wiring(&a, &b, s, d), "{a:?} {b:?} at ({s}, {d})");
+            if s > 0 {
+                assert!(!exists_wiring(&a, &b, s - 1, d), "{a:?} {b:?} below {s}");
+            }
+        }
+    }
+}
+
+#[test]
+fn two_searches_agree() {
+    let mut random = Random::new(13);
+    let (mut found, mut missing) = (0, 0);
+    for _ in 0..1_500 {
+        let n = 1 + random.below(3);
+        let (a, b) = (small_row(&mut random, n, 5), small_row(&mut random, n, 5));
+        let (s, d) = (random.below(4), random.between(-2, 2));
+        match find_wiring(&a, &b, s, d) {
+            Some(wires) => {
+                assert!(legal_wires(&a, &b, s, d, &wires));
+                assert!(exists_wiring(&a, &b, s, d), "{a:?} {b:?} at ({s}, {d})");
+                found += 1;
+            }
+            None => {
+                assert!(!exists_wiring(&a, &b, s, d), "{a:?} {b:?} at ({s}, {d})");
+                missing += 1;
+            }
+        }
+    }
+    assert!(found > 100 && missing > 100);
+}
+
+#[test]
+fn more_columns_change_nothing() {
+    let mut random = Random::new(15);
+    for _ in 0..1_000 {
+        let n = 1 + random.below(4);
+        let (a, b) = (small_row(&mut random, n, 7), small_row(&mut random, n, 7));
+        let (s, d) = (random.below(4), random.between(-4, 4));
+        let (first, last) = enough_columns(&a, &b, s, d);
+        assert_eq!(
+            exists_wiring(&a, &b, s, d),
+            exists_wiring_within(&a, &b, s, d, (first - 9, last + 9))
+        );
+    }
+}
+
+#[test]
+fn best_offsets_by_search() {
+    // For small jumpers the whole range at s, found by searching offset after offset.
+    let mut random = Random::new(14);
+    for _ in 0..150 {
+        let n = 1 + random.below(3);
+        let (a, b) = (small_row(&mut random, n, 6), small_row(&mut random, n, 6));
+        for s in 0..n.min(3) {
+            let there: Vec<i32> = (-9..=9).filter(|&d| exists_wiring(&a, &b, s, d)).collect();
+            let answer = range(&a, &b, s);
+            if answer.refusal == NOOFFSET {
+                assert!(there.is_empty());
+            } else {
+                let expected: Vec<i32> = (answer.lowest..=answer.highest).collect();
+                assert_eq!(there, expected, "{a:?} {b:?} at {s}");
+            }
+        }
+    }
+}
+
+#[test]
+fn worked_jumpers_by_search() {
+    assert!(exists_wiring(&J.0, &J.1, 2, 0));
+    assert!(!exists_wiring(&J.0, &J.1, 1, 0));
+    assert!(!exists_wiring(&K.0, &K.1, 1, -5));
+    assert!(exists_wiring(&K.0, &K.1, 1, -4));
+    assert!(exists_wiring(&S.0, &S.1, 0, -1));
+    assert!(exists_wiring(&[0], &[9], 1, 0));
+    assert!(!exists_wiring(&[0], &[9], 0, 0));
+}

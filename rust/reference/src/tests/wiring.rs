@@ -1,0 +1,186 @@
+//! Drawn tables are legal; the checker accepts exactly what is legal over grid points.
+
+use crate::numbers::*;
+use crate::random::*;
+use crate::rule::*;
+use crate::wires::*;
+
+/// Rows whose columns lie near each other, so that walking every point is cheap.
+fn near_rows(random: &mut Random, most: usize) -> (Vec<i32>, Vec<i32>) {
+    let n = 1 + random.below(most);
+    let mut row = || -> Vec<i32> {
+        let mut column = random.between(0, 6);
+        (0..n)
+            .map(|_| {
+                column += random.pick(&[1, 1, 1, 2, 3, 7]);
+                column
+            })
+            .collect()
+    };
+    (row(), row())
+}
+
+#[test]
+fn drawn_tables_are_legal() {
+    let mut random = Random::new(31);
+    let mut drawn = 0;
+    for _ in 0..2_000 {
+        let (a, b) = near_rows(&mut random, 14);
+        let d = random.between(-30, 30);
+        let s = least(&a, &b, d).separation + random.pick(&[0, 0, 0, 1, 5]);
+        let mut table = vec![0; a.len() * (s + 1)];
+        assert_eq!(draw_all(&a, &b, s, d, &mut table), Numbers::default());
+        assert!(legal_table(&a, &b, s, d, &table), "{a:?} {b:?} ({s}, {d})");
+        assert_eq!(check(&a, &b, s, d, &table), Numbers::default());
+        for wire in 0..a.len() {
+            let mut one = vec![0; s + 1];
+            draw_wire(&a, &b, s, d, wire, &mut one);
+            assert_eq!(one, table[wire * (s + 1)..(wire + 1) * (s + 1)]);
+        }
+        drawn += 1;
+    }
+    assert_eq!(drawn, 2_000);
+}
+
+#[test]
+fn drawn_at_the_ends_of_the_best_range() {
+    let mut random = Random::new(32);
+    for _ in 0..300 {
+        let (a, b) = near_rows(&mut random, 30);
+        let answer = crate::best(&a, &b);
+        for d in [answer.lowest, answer.highest] {
+            let s = answer.separation;
+            let mut table = vec![0; a.len() * (s + 1)];
+            assert_eq!(draw_all(&a, &b, s, d, &mut table).refusal, 0);
+            assert!(legal_table(&a, &b, s, d, &table));
+        }
+    }
+}
+
+#[test]
+fn a_misfit_followed_by_the_text_is_never_accepted() {
+    let mut random = Random::new(33);
+    let mut misfits = 0;
+    for _ in 0..2_000 {
+        let (a, b) = near_rows(&mut random, 8);
+        let (s, d) = (random.below(a.len()), random.between(-12, 12));
+        if fit(&a, &b, s, d).refusal == NOFIT {
+            let table: Vec<i32> = (0..a.len())
+                .flat_map(|i| columns_of_wire(&a, &b, s, d, i))
+                .collect();
+            assert_eq!(check(&a, &b, s, d, &table).refusal, BADWIRE);
+            assert!(!legal_table(&a, &b, s, d, &table));
+            misfits += 1;
+        }
+    }
+    assert!(misfits > 300);
+}
+
+#[test]
+fn checker_equals_legality_on_mutated_tables() {
+    let mut random = Random::new(34);
+    let (mut accepted, mut refused) = (0, 0);
+    for _ in 0..20_000 {
+        let (a, b) = near_rows(&mut random, 5);
+        let d = random.between(-8, 8);
+        let s = least(&a, &b, d).separation + random.below(3);
+        let mut table = vec![0; a.len() * (s + 1)];
+        draw_all(&a, &b, s, d, &mut table);
+        for _ in 0..random.below(4) {
+            let place = random.below(table.len());
+            match random.below(4) {
+                0 => table[place] += random.pick(&[-1, 1]),
+                1 => table[place] = random.between(-10, 40),
+                2 => {
+                    let other = random.below(table.len());
+                    table.swap(place, other);
+                }
+                _ => {
+                    let other = random.below(table.len());
+                    table[place] = table[other];
+                }
+            }
+        }
+        let legal = legal_table(&a, &b, s, d, &table);
+        assert_eq!(check(&a, &b, s, d, &table).refusal == 0, legal);
+        *(if legal { &mut accepted } else { &mut refused }) += 1;
+    }
+    assert!(accepted > 2_000 && refused > 2_000, "{accepted} {refused}");
+}
+
+#[test]
+fn checker_equals_legality_on_all_small_tables() {
+    // Two wires on two tracks and the top: all tables with columns 0 to 5.
+    for (a, b, d) in [
+        ([1, 3], [2, 4], 0),
+        ([1, 2], [1, 2], 1),
+        ([2, 4], [3, 4], -2),
+    ] {
+        let mut legal_ones = 0;
+        for code in 0..6usize.pow(6) {
+            let table: Vec<i32> = (0..6)
+                .map(|place| (code / 6usize.pow(place) % 6) as i32)
+                .collect();
+            let legal = legal_table(&a, &b, 2, d, &table);
+            assert_eq!(check(&a, &b, 2, d, &table).refusal == 0, legal);
+            legal_ones += legal as usize;
+        }
+        assert!(legal_ones > 0);
+    }
+}
+
+#[test]
+fn first_fault_by_track_then_wire() {
+    let (a, b) = super::J;
+    let drawn = [0, 0, 1, 1, 2, 2, 4, 3, 3, 5, 5, 4];
+    let fault = |change: &[(usize, i32)]| {
+        let mut table = drawn;
+        for &(place, column) in change {
+            table[place] = column;
+        }
+        let answer = check(&a, &b, 2, 0, &table);
+        (answer.refusal, answer.place, answer.second)
+    };
+    assert_eq!(fault(&[]), (0, 0, 0));
+    // Wrong start of wire 2; it also leaves wire 1 alone.
+    assert_eq!(fault(&[(6, 3)]), (BADWIRE, 2, 0));
+    // Wrong start of wire 1 that runs into wire 0: wire 0 comes first.
+    assert_eq!(fault(&[(3, 0)]), (BADWIRE, 0, 0));
+    // Wrong end of wire 3, by track after a meeting on track 1.
+    assert_eq!(fault(&[(11, 6)]), (BADWIRE, 3, 2));
+    assert_eq!(fault(&[(11, 6), (8, 4)]), (BADWIRE, 2, 2));
+    assert_eq!(fault(&[(11, 3)]), (BADWIRE, 2, 1));
+    // At s = 0 start and end are on one track.
+    let at_zero = |table: &[i32]| {
+        let answer = check(&[1, 5], &[0, 4], 0, 1, table);
+        (answer.refusal, answer.place, answer.second)
+    };
+    assert_eq!(at_zero(&[1, 5]), (0, 0, 0));
+    assert_eq!(at_zero(&[1, 4]), (BADWIRE, 1, 0));
+    // A right start can be a wrong end.
+    let answer = check(&[1, 5], &[1, 6], 0, 0, &[1, 5]);
+    assert_eq!(answer, Numbers::refused_at(BADWIRE, 1, 0));
+    // Columns as far off as they go.
+    let answer = check(&[1], &[1], 1, 0, &[i32::MIN, i32::MAX]);
+    assert_eq!(answer, Numbers::refused_at(BADWIRE, 0, 0));
+    let answer = check(&[1], &[1], 1, 0, &[1, i32::MAX]);
+    assert_eq!(answer, Numbers::refused_at(BADWIRE, 0, 1));
+    let table = [1, 1, 1, 2, i32::MIN, 2];
+    let answer = check(&[1, 2], &[1, 2], 2, 0, &table);
+    assert_eq!(answer, Numbers::refused_at(BADWIRE, 0, 0));
+}
+
+#[test]
+fn a_large_table_point_by_point() {
+    let mut random = Random::new(35);
+    let (a, b) = stairs(150);
+    let mut table = vec![0; 150 * 151];
+    assert_eq!(draw_all(&a, &b, 150, 0, &mut table).refusal, 0);
+    assert!(legal_table(&a, &b, 150, 0, &table));
+    let (a, b) = near_rows(&mut random, 200);
+    let d = b[0] - a[a.len() - 1];
+    let s = least(&a, &b, d).separation;
+    let mut table = vec![0; a.len() * (s + 1)];
+    assert_eq!(draw_all(&a, &b, s, d, &mut table).refusal, 0);
+    assert!(legal_table(&a, &b, s, d, &table));
+}
