@@ -1,0 +1,64 @@
+use borrow.Author.Needs.{needs}
+use Rattle.answersheet.proofs.run.Statement.{statement}
+use Rattle.answersheet.proofs.run.Tie as tie
+
+abbrev Inv-loop : tie.InvT-loop
+Inv-loop line₀ a₀ b₀ out₀ st₀ at₀ turns₀ well₀ more₀ line a b out st at turns well more = Unit {0}
+
+abbrev μ-loop : tie.MeasureT-loop
+μ-loop line₀ a₀ b₀ out₀ st₀ at₀ turns₀ well₀ more₀ line a b out st at turns well more = turns
+
+fresh-requires : tie.Need-fresh-requires Inv-loop μ-loop
+fresh-requires c κs = search needs
+
+loop-holds : tie.Need-loop-holds Inv-loop μ-loop
+loop-holds c = search needs
+
+turn-requires : tie.Need-turn-requires Inv-loop μ-loop
+turn-requires c κs = search needs
+
+sub-turns : tie.Need-sub-turns Inv-loop μ-loop
+sub-turns c = search needs
+
+loop-less : tie.Need-loop-less Inv-loop μ-loop
+loop-less c = search needs
+
+loop-again : tie.Need-loop-again Inv-loop μ-loop
+loop-again c = search needs
+
+drain-requires : tie.Need-drain-requires Inv-loop μ-loop
+drain-requires c κs = search needs
+
+finish-requires : tie.Need-finish-requires Inv-loop μ-loop
+finish-requires c κs = search needs
+
+drain-requires-2 : tie.Need-drain-requires-2 Inv-loop μ-loop
+drain-requires-2 c κs = search needs
+
+returns : tie.Need-returns Inv-loop μ-loop
+returns c = search needs
+
+returns-2 : tie.Need-returns-2 Inv-loop μ-loop
+returns-2 c = search needs
+
+returns-3 : tie.Need-returns-3 Inv-loop μ-loop
+returns-3 c = search needs
+
+pub run-spec : {M : Type 1} → statement M
+run-spec =
+    tie.close
+    (tie.spec
+    Inv-loop
+    μ-loop
+    fresh-requires
+    loop-holds
+    turn-requires
+    sub-turns
+    loop-less
+    loop-again
+    drain-requires
+    finish-requires
+    drain-requires-2
+    returns
+    returns-2
+    returns-3)

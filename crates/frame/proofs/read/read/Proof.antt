@@ -1,0 +1,41 @@
+use native.Mathlib.Omega.{arith}
+use mathlib.Core.Path.{_≡_, refl, sym, ap, _∙_}
+use lib.Seq.{length-take-le}
+use Rattle.frame.specs.Frame.{saidOf}
+use Rattle.frame.proofs.Frames.{read-empty, read-fed, read-unfed}
+use borrow.Author.Needs.{needs}
+use Rattle.frame.proofs.read.read.Statement.{statement}
+use Rattle.frame.proofs.read.read.Tie as tie
+
+returns : tie.Need-returns
+returns c = read-empty _ (c .if1 .taken)
+
+sub-n : tie.Need-sub-n
+sub-n c = search needs
+
+shared-slice-read-if2 : tie.Need-shared-slice-read-if2
+shared-slice-read-if2 c = search needs
+
+slice-aggregate-read-text : tie.Need-slice-aggregate-read-text
+slice-aggregate-read-text c = sym (length-take-le _ _ (omega arith))
+
+read-text-requires : tie.Need-read-text-requires
+read-text-requires c κs = search needs
+
+returns-2 : tie.Need-returns-2
+returns-2 c = c .read-text .ensures ∙ ap saidOf (read-fed (c .before .before .before .before .before .before .args .line .now) _ (c .before .before .before .before .if1 .left) refl (c .before .before .if2 .taken))
+
+returns-3 : tie.Need-returns-3
+returns-3 c = read-unfed _ _ (c .before .before .if1 .left) refl (c .if2 .left)
+
+pub read-spec : {M : Type 1} → statement M
+read-spec =
+    tie.close
+    (tie.spec
+    returns
+    sub-n
+    shared-slice-read-if2
+    slice-aggregate-read-text
+    read-text-requires
+    returns-2
+    returns-3)

@@ -1,0 +1,198 @@
+-- The frames 21: the column of a wire on a track, a wire that has come to its top pad's column, and what writing them leaves.
+use mathlib.Core.Path.{_≡_, refl, sym, ap, _∙_, subst}
+use mathlib.Core.Bool.{Bool, true, false, cond, true≢false}
+use mathlib.Core.Logic.{⊎-elim}
+use mathlib.Core.List.{List, [], _∷_, _++_, append-assoc, append-nil}
+use Prim.Native.Nat.{ℕ, zero, suc, _+_, _*_, _-_, _<_, _≤_}
+use native.Mathlib.Omega.{arith}
+use lib.Dec.{eqb, ltb, leb}
+use lib.ListN.{length, take, drop}
+use lib.IntN.{ℤ, pos, _+ℤ_, _-ℤ_}
+use lib.Signed.{_≤ℤ_, _<ℤ_, ltZ}
+use borrow.Author.Tests.{lt-ltb, le-ltb, ltb-true, ltb-false, leb-true, leb-false}
+use Rattle.whole.specs.Pick.{largerOf, smallerOf}
+use Rattle.whole.proofs.Arith.{up, down, arithℤ, sum, dif}
+use Rattle.whole.proofs.Order.{true-lt, false-lt, lt-false}
+use Rattle.wiring.specs.Wiring.{pad, topPad}
+use Rattle.wiring.specs.Fit.{Rising}
+use Rattle.wiring.specs.Drawing.{rightward, leftward, entry, drawn}
+use Rattle.wiring.proofs.Rule.{spread}
+use Rattle.wiring.proofs.Drawing.{Clamped, entry-clamped}
+use Rattle.frame.specs.Written.{moveLine}
+use Rattle.frame.specs.Puts.{puts, LinePut}
+use Rattle.frame.proofs.Puts.{take-puts, answer-length, move-length}
+use Rattle.frame.specs.declared.write.Move.{Move}
+use Rattle.sheet.specs.Route.{differ, moveText, trackText, wireText, wiresText}
+use Rattle.sheet.specs.Owes.{routeLeft, RouteOut, WireOut, TrackOut}
+use Rattle.sheet.proofs.Lines.{either}
+
+-- ---- the column of a wire on a track, as the code picks it
+
+module _ (n : ℕ) (a : ℕ → ℤ) (c : ℤ) (i : ℕ) where
+  pub at-bottom : (t : ℕ) → t ≡ 0 → a i ≡ entry n a c i t
+  unfolding entry
+  at-bottom zero e = refl
+  at-bottom (suc t) e = absurd (omega arith)
+
+  pub left-free : (t : ℕ) → (t ≡ 0 → ⊥) → ltZ c (a i) ≡ true → i < t → c ≡ entry n a c i t
+  unfolding entry leftward
+  left-free zero e l h = absurd (e refl)
+  left-free (suc t) e l h = simp (l, lt-ltb _ _ h)
+
+  pub left-held : (t : ℕ) → (t ≡ 0 → ⊥) → ltZ c (a i) ≡ true → t ≤ i → (r : ℤ) → r ≡ largerOf c (a (i - t) +ℤ pos t) → r ≡ entry n a c i t
+  unfolding entry leftward
+  left-held zero e l h r q = absurd (e refl)
+  left-held (suc t) e l h r q = q ∙ simp (l, le-ltb _ _ h)
+
+  pub right-held : (t : ℕ) → (t ≡ 0 → ⊥) → ltZ c (a i) ≡ false → i + t < n → (r : ℤ) → r ≡ smallerOf c (a (i + t) -ℤ pos t) → r ≡ entry n a c i t
+  unfolding entry rightward
+  right-held zero e l h r q = absurd (e refl)
+  right-held (suc t) e l h r q = q ∙ simp (l, lt-ltb _ _ h)
+
+  pub right-free : (t : ℕ) → (t ≡ 0 → ⊥) → ltZ c (a i) ≡ false → n ≤ i + t → c ≡ entry n a c i t
+  unfolding entry rightward
+  right-free zero e l h = absurd (e refl)
+  right-free (suc t) e l h = simp (l, le-ltb _ _ h)
+
+-- ---- equal columns
+
+pub differ-not : (x y : ℤ) → differ x y ≡ false → x ≡ y
+differ-not x y h =
+    either (ltZ x y)
+    (λ e. absurd (true≢false (sym (simp e) ∙ h)))
+    (λ e. let f : ltZ y x ≡ false = simp e at h in omega (arithℤ, false-lt x y e, false-lt y x f))
+
+differ-same : (x : ℤ) → differ x x ≡ false
+differ-same x = let e : ltZ x x ≡ false = lt-false x x (omega arithℤ) in simp e
+
+-- ---- a wire that has come to the column of its top pad stays there
+
+stays : (n : ℕ) (a : ℕ → ℤ) → Rising n a → (c : ℤ) (i t u : ℕ) → i < n → t ≤ u → entry n a c i t ≡ c → entry n a c i u ≡ c
+stays n a ra c i t u here le e =
+    let x = entry-clamped n a ra c i t here in
+    let y = entry-clamped n a ra c i u here in
+    let low : entry n a c i u ≤ℤ c = ⊎-elim (λ p. p)
+    (λ p. omega (arithℤ, p .1, e, x .lower (omega (arith, p .0)), sum (a (i - u)) (pos u), sum (a (i - t)) (pos t), sum (a (i - u)) (pos (u - t)), spread ra (u - t) (i - u) (i - t) (omega (arith, p .0)) (omega arith)))
+    (y .below) in
+    let high : c ≤ℤ entry n a c i u = ⊎-elim (λ p. p)
+    (λ p. omega (arithℤ, p .1, e, x .upper (omega (arith, p .0)), dif (a (i + u)) (pos u), dif (a (i + t)) (pos t), sum (a (i + t)) (pos (u - t)), spread ra (u - t) (i + t) (i + u) (omega arith) (p .0)))
+    (y .above) in
+    omega arithℤ
+
+no-tracks : (l : ℕ) (e : ℕ → ℕ → ℤ) (c : ℤ) (i t k : ℕ) → ((u : ℕ) → t ≤ u → e i u ≡ c) → wireText l e i t k ≡ []
+unfolding wireText moveText
+no-tracks l e c i t zero h = refl
+no-tracks l e c i t (suc k) h =
+    let p : e i t ≡ c = h t (omega arith) in
+    let q : e i (t + 1) ≡ c = h (t + 1) (omega arith) in
+    simp (p, q, differ-same c) (no-tracks l e c i (t + 1) k (λ u g. h u (omega arith)))
+
+-- ---- one track
+
+module _ (m : Move) (out : List ℕ) (at : ℕ) where
+  pub track-none : differ (m .from) (m .to) ≡ false → TrackOut (moveText m) out at true at out
+  unfolding moveText
+  track-none e = record { wrote = λ h. simp e (sym (append-nil (take at out))); full = λ h. absurd (true≢false h) }
+
+  pub track-full : (p : ℕ) (out' : List ℕ) → LinePut (moveLine m) out at p out' → p ≡ at → TrackOut (moveText m) out at false at out'
+  track-full p out' k e =
+      either (leb (at + length (moveLine m)) (length out))
+      (λ q. let l = move-length m in let g = k .room (leb-true _ _ q) in absurd (omega (arith, g .0)))
+      (λ q. let l = move-length m in let f = leb-false _ _ q in let g = k .full f in record { wrote = λ h. absurd (true≢false (sym h)); full = λ h. (refl, g .1, omega arith) })
+
+  pub track-put : (p : ℕ) (out' : List ℕ) → LinePut (moveLine m) out at p out' → (p ≡ at → ⊥) → differ (m .from) (m .to) ≡ true → TrackOut (moveText m) out at true p out'
+  unfolding moveText
+  track-put p out' k n e =
+      either (leb (at + length (moveLine m)) (length out))
+      (λ q.
+      let room : at + length (moveLine m) ≤ length out = leb-true _ _ q in
+      let g = k .room room in
+      record { wrote = λ h. simp e (ap (λ (z : ℕ). take z out') (g .0) ∙ ap (take (at + length (moveLine m))) (g .1) ∙ take-puts out at (moveLine m) room); full = λ h. absurd (true≢false h) })
+      (λ q. absurd (n (k .full (leb-false _ _ q) .0)))
+
+-- ---- one wire
+
+module _ (l s : ℕ) (e : ℕ → ℕ → ℤ) (i : ℕ) where
+  pub wire-more : (out out' : List ℕ) (t p q : ℕ) → t < s → take q out' ≡ take p out ++ trackText l e i t
+      → take p out ++ wireText l e i t (s - t) ≡ take q out' ++ wireText l e i (t + 1) (s - (t + 1))
+  unfolding wireText
+  wire-more out out' t p q h g =
+      let k : s - t ≡ suc (s - (t + 1)) = omega arith in
+      ap (λ (z : ℕ). take p out ++ wireText l e i t z) k
+      ∙ sym (append-assoc (take p out) (trackText l e i t) (wireText l e i (t + 1) (s - (t + 1))))
+      ∙ ap (λ (z : List ℕ). z ++ wireText l e i (t + 1) (s - (t + 1))) (sym g)
+
+  pub wire-none : (t : ℕ) → s ≤ t → wireText l e i t (s - t) ≡ []
+  unfolding wireText
+  wire-none t h = let k : s - t ≡ 0 = omega arith in ap (wireText l e i t) k
+
+-- a wire that stands on its top pad's column has nothing more to write
+pub wire-stays : (l s : ℕ) (n : ℕ) (a c : ℕ → ℤ) → Rising n a → (i t : ℕ) → i < n → drawn n a c i t ≡ c i
+    → wireText l (drawn n a c) i t (s - t) ≡ wireText l (drawn n a c) i s (s - s)
+wire-stays l s n a c ra i t here e =
+    no-tracks l (drawn n a c) (c i) i t (s - t) (λ u g. stays n a ra (c i) i t u here g e) ∙ sym (wire-none l s (drawn n a c) i s (omega arith))
+
+-- ---- the wires of a route
+
+wires-more : (l s : ℕ) (e : ℕ → ℕ → ℤ) (i n : ℕ) → i < n → wiresText l e s i (n - i) ≡ wireText l e i 0 (s - 0) ++ wiresText l e s (i + 1) (n - (i + 1))
+unfolding wiresText
+wires-more l s e i n h =
+    let k : n - i ≡ suc (n - (i + 1)) = omega arith in
+    let z : s ≡ s - 0 = omega arith in
+    ap (wiresText l e s i) k ∙ ap (λ (x : ℕ). wireText l e i 0 x ++ wiresText l e s (i + 1) (n - (i + 1))) z
+
+wires-none : (l s : ℕ) (e : ℕ → ℕ → ℤ) (i n : ℕ) → n ≤ i → wiresText l e s i (n - i) ≡ []
+unfolding wiresText
+wires-none l s e i n h = let k : n - i ≡ 0 = omega arith in ap (wiresText l e s i) k
+
+pub route-more : (l s : ℕ) (d : ℤ) (a b : List ℤ) (i t t' : ℕ) (out out' : List ℕ) (p q : ℕ) → i < length a → s ≤ t'
+    → take p out ++ wireText l (drawn (length a) (pad a) (topPad b d)) i t (s - t) ≡ take q out' ++ wireText l (drawn (length a) (pad a) (topPad b d)) i t' (s - t')
+    → take p out ++ routeLeft l s d a b i t ≡ take q out' ++ routeLeft l s d a b (i + 1) 0
+unfolding routeLeft
+route-more l s d a b i t t' out out' p q h g w =
+    let e : ℕ → ℕ → ℤ = drawn (length a) (pad a) (topPad b d) in
+    let R : List ℕ = wiresText l e s (i + 1) (length a - (i + 1)) in
+    let none : wireText l e i t' (s - t') ≡ [] = wire-none l s e i t' g in
+    simp (lt-ltb _ _ h)
+    (sym (append-assoc (take p out) (wireText l e i t (s - t)) R)
+    ∙ ap (λ (z : List ℕ). z ++ R) (w ∙ ap (λ (z : List ℕ). take q out' ++ z) none ∙ append-nil (take q out'))
+    ∙ ap (λ (z : List ℕ). take q out' ++ z) (next (ltb (i + 1) (length a)) refl))
+  where
+    next : (x : Bool) → ltb (i + 1) (length a) ≡ x
+        → wiresText l (drawn (length a) (pad a) (topPad b d)) s (i + 1) (length a - (i + 1))
+        ≡ cond x (wireText l (drawn (length a) (pad a) (topPad b d)) (i + 1) 0 (s - 0) ++ wiresText l (drawn (length a) (pad a) (topPad b d)) s (i + 1 + 1) (length a - (i + 1 + 1))) []
+    next true x = wires-more l s (drawn (length a) (pad a) (topPad b d)) (i + 1) (length a) (ltb-true _ _ x)
+    next false x = wires-none l s (drawn (length a) (pad a) (topPad b d)) (i + 1) (length a) (ltb-false _ _ x)
+
+-- no more wires
+pub route-end : (l s : ℕ) (d : ℤ) (a b : List ℤ) (i t : ℕ) → length a ≤ i → routeLeft l s d a b i t ≡ []
+unfolding routeLeft
+route-end l s d a b i t h = simp (le-ltb _ _ h)
+
+-- where the buffer is full, the rest of the wire is left
+pub route-stop : (l s : ℕ) (d : ℤ) (a b : List ℤ) (i t t' : ℕ) (out out' : List ℕ) (p q : ℕ) → i < length a
+    → take p out ++ wireText l (drawn (length a) (pad a) (topPad b d)) i t (s - t) ≡ take q out' ++ wireText l (drawn (length a) (pad a) (topPad b d)) i t' (s - t')
+    → take p out ++ routeLeft l s d a b i t ≡ take q out' ++ routeLeft l s d a b i t'
+unfolding routeLeft
+route-stop l s d a b i t t' out out' p q h w =
+    let e : ℕ → ℕ → ℤ = drawn (length a) (pad a) (topPad b d) in
+    let R : List ℕ = wiresText l e s (i + 1) (length a - (i + 1)) in
+    simp (lt-ltb _ _ h)
+    (sym (append-assoc (take p out) (wireText l e i t (s - t)) R) ∙ ap (λ (z : List ℕ). z ++ R) w ∙ append-assoc (take q out') (wireText l e i t' (s - t')) R)
+
+-- ---- the steps of the loop over a wire's tracks
+
+pub wire-step : (l s : ℕ) (e : ℕ → ℕ → ℤ) (i : ℕ) (W out out' : List ℕ) (t p q : ℕ) (x y : ℤ) → t < s → x ≡ e i t → y ≡ e i (t + 1)
+    → W ≡ take p out ++ wireText l e i t (s - t) → take q out' ≡ take p out ++ moveText (record { line = l; wire = i; track = t; from = x; to = y })
+    → W ≡ take q out' ++ wireText l e i (t + 1) (s - (t + 1))
+wire-step l s e i W out out' t p q x y h ex ey w g =
+    let m : moveText (record { line = l; wire = i; track = t; from = x; to = y }) ≡ trackText l e i t = simp (ex, ey) in
+    w ∙ wire-more l s e i out out' t p q h (g ∙ ap (λ (z : List ℕ). take p out ++ z) m)
+
+pub wire-still : (l s : ℕ) (n : ℕ) (a c : ℕ → ℤ) → Rising n a → (i : ℕ) (W out : List ℕ) (t p : ℕ) (x z : ℤ) → i < n → x ≡ drawn n a c i t → z ≡ c i → differ x z ≡ false
+    → W ≡ take p out ++ wireText l (drawn n a c) i t (s - t) → W ≡ take p out ++ wireText l (drawn n a c) i s (s - s)
+wire-still l s n a c ra i W out t p x z here ex ez d w =
+    w ∙ ap (λ (y : List ℕ). take p out ++ y) (wire-stays l s n a c ra i t here (sym ex ∙ differ-not x z d ∙ ez))
+
+pub wire-full : (l s : ℕ) (e : ℕ → ℕ → ℤ) (i : ℕ) (W out out' : List ℕ) (t p : ℕ) → out' ≡ out → W ≡ take p out ++ wireText l e i t (s - t) → W ≡ take p out' ++ wireText l e i t (s - t)
+wire-full l s e i W out out' t p g w = w ∙ ap (λ (y : List ℕ). take p y ++ wireText l e i t (s - t)) (sym g)

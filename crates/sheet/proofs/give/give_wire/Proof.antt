@@ -1,0 +1,135 @@
+use mathlib.Core.List.{List}
+use Prim.Native.Nat.{ℕ}
+use mir.Val.{ofZ}
+use borrow.Author.Needs.{needs}
+use native.Mathlib.Omega.{arith}
+use mathlib.Core.Path.{_≡_, refl, sym, _∙_, ap}
+use mathlib.Core.List.{_++_}
+use Prim.Native.Nat.{_≤_, _<_, _-_, _+_}
+use lib.IntN.{ℤ}
+use lib.ListN.{length, take}
+use mir.Syntax.{w32}
+use mir.Val.{toZ}
+use mir.ValLaws.{toZ-ofZ}
+use Rattle.whole.proofs.Machine.{back}
+use Rattle.wiring.specs.Wiring.{pad, topPad}
+use Rattle.wiring.specs.Drawing.{entry, drawn}
+use Rattle.sheet.specs.Route.{wireText}
+use Rattle.sheet.proofs.Routes.{wire-step, wire-still, wire-full}
+use Rattle.sheet.proofs.give.give_wire.Statement.{statement}
+use Rattle.sheet.proofs.give.give_wire.Tie as tie
+
+abbrev Inv-loop : tie.InvT-loop
+Inv-loop a b line s d i track out₀ at c t₀ p₀ x₀ out t p x = (length out ≡ length out₀) × (t ≤ s) × (toZ w32 x ≡ entry (length a) (pad a) (topPad b (toZ w32 d) i) i t) × (take at out₀ ++ wireText line (drawn (length a) (pad a) (topPad b (toZ w32 d))) i track (s - track) ≡ take p out ++ wireText line (drawn (length a) (pad a) (topPad b (toZ w32 d))) i t (s - t))
+
+abbrev μ-loop : tie.MeasureT-loop
+μ-loop a b line s d i track out₀ at c t₀ p₀ x₀ out t p x = s - t
+
+returns : tie.Need-returns Inv-loop μ-loop
+returns c = record { gave = refl; far = λ h. absurd (omega (arith, c .if1 .taken)) }
+
+top-column-requires : tie.Need-top-column-requires Inv-loop μ-loop
+top-column-requires c κs = let q = c .before .before .pre in let e = toZ-ofZ w32 (c .before .before .args .d) (c .before .before .fits .d) in rw e (q .0 .rows .top, q .0 .offset, omega (arith, q .1, q .0 .rows .equal))
+
+column-requires : tie.Need-column-requires Inv-loop μ-loop
+column-requires c κs = let q = c .before .before .before .pre in (q .0 .rows .bottom, q .1, omega (arith, q .0 .tracks, c .before .if1 .left))
+
+loop-holds : tie.Need-loop-holds Inv-loop μ-loop
+loop-holds c =
+    let ec = back (c .before .top-column .result) (c .before .top-column .ok) ∙ c .before .top-column .ensures in
+    (refl, search needs, back (c .column .result) (c .column .ok) ∙ c .column .ensures ∙ ap (λ (z : ℤ). entry (length (c .before .before .before .before .args .a .now)) (pad (c .before .before .before .before .args .a .now)) z (c .before .before .before .before .args .i) (c .before .before .before .before .args .track)) ec, refl)
+
+differs-requires : tie.Need-differs-requires Inv-loop μ-loop
+differs-requires c κs = search needs
+
+add-column : tie.Need-add-column Inv-loop μ-loop
+add-column c = omega (arith, c .before .before .loop-test .taken, c .before .before .before .before .before .before .before .before .pre .0 .tracks)
+
+column-requires-2 : tie.Need-column-requires-2 Inv-loop μ-loop
+column-requires-2 c κs = let q = c .before .before .before .before .before .before .before .before .pre in (q .0 .rows .bottom, q .1, omega (arith, q .0 .tracks, c .before .before .loop-test .taken))
+
+give-track-requires : tie.Need-give-track-requires Inv-loop μ-loop
+give-track-requires c κs = search needs
+
+add-t : tie.Need-add-t Inv-loop μ-loop
+add-t c = omega (arith, c .before .before .before .before .before .before .before .before .loop-test .taken, c .before .before .before .before .before .before .before .before .before .before .before .before .before .before .pre .0 .tracks)
+
+loop-less : tie.Need-loop-less Inv-loop μ-loop
+loop-less c = omega (arith, c .before .before .before .before .before .before .before .before .loop-test .taken)
+
+loop-again : tie.Need-loop-again Inv-loop μ-loop
+loop-again c =
+    let g = c .before .before .before .before .before .before .before .before .before .before .before .before .before .before .args in
+    let E : ℕ → ℕ → ℤ = drawn (length (g .a .now)) (pad (g .a .now)) (topPad (g .b .now) (toZ w32 (ofZ w32 (g .d)))) in
+    let W : List ℕ = take (g .at) (g .out .now) ++ wireText (g .line) E (g .i) (g .track) (g .s - g .track) in
+    let ec = back (c .before .before .before .before .before .before .before .before .before .before .before .top-column .result) (c .before .before .before .before .before .before .before .before .before .before .before .top-column .ok) ∙ c .before .before .before .before .before .before .before .before .before .before .before .top-column .ensures in
+    let ey = back (c .before .before .before .before .before .column2 .result) (c .before .before .before .before .before .column2 .ok) ∙ c .before .before .before .before .before .column2 .ensures ∙ ap (λ (z : ℤ). entry (length (g .a .now)) (pad (g .a .now)) z (g .i) (c .before .before .before .before .before .before .before .before .before .loop .t + 1)) ec in (
+      c .before .before .before .give-track .kept .1 .0 ∙ c .before .before .before .before .before .before .before .before .before .loop .inv .0,
+      omega (arith, c .before .before .before .before .before .before .before .before .loop-test .taken),
+      ey,
+      wire-step (g .line) (g .s) E (g .i) W (c .before .before .before .before .before .before .before .before .before .loop .out) (c .before .before .before .give-track .last .1 .0) (c .before .before .before .before .before .before .before .before .before .loop .t) (c .before .before .before .before .before .before .before .before .before .loop .p) (c .before .before .before .give-track .result .at) (toZ w32 (c .before .before .before .before .before .before .before .before .before .loop .x)) (toZ w32 (ofZ w32 (c .before .before .before .before .before .column2 .result)))
+          (c .before .before .before .before .before .before .before .before .loop-test .taken) (c .before .before .before .before .before .before .before .before .before .loop .inv .2) ey (c .before .before .before .before .before .before .before .before .before .loop .inv .3) (c .before .before .before .give-track .ensures .wrote (c .if3 .taken)),
+    )
+
+same-length : tie.Need-same-length Inv-loop μ-loop
+same-length c = c .before .before .before .give-track .kept .1 .0 ∙ c .before .before .before .before .before .before .before .before .before .loop .inv .0
+
+returns-2 : tie.Need-returns-2 Inv-loop μ-loop
+returns-2 c =
+    let g = c .before .before .before .before .before .before .before .before .before .before .before .before .before .before .args in
+    let e = toZ-ofZ w32 (g .d) (c .before .before .before .before .before .before .before .before .before .before .before .before .before .before .fits .d) in
+    let E : ℕ → ℕ → ℤ = drawn (length (g .a .now)) (pad (g .a .now)) (topPad (g .b .now) (toZ w32 (ofZ w32 (g .d)))) in
+    let W : List ℕ = take (g .at) (g .out .now) ++ wireText (g .line) E (g .i) (g .track) (g .s - g .track) in
+    let f = c .before .before .before .give-track .ensures .full (c .if3 .left) in
+    record {
+      gave = rw e at (wire-full (g .line) (g .s) E (g .i) W (c .before .before .before .before .before .before .before .before .before .loop .out) (c .before .before .before .give-track .last .1 .0) (c .before .before .before .before .before .before .before .before .before .loop .t) (c .before .before .before .before .before .before .before .before .before .loop .p) (f .1) (c .before .before .before .before .before .before .before .before .before .loop .inv .3));
+      far = λ h. omega (arith, f .2, c .before .before .before .before .before .before .before .before .before .loop .inv .0);
+    }
+
+same-length-2 : tie.Need-same-length-2 Inv-loop μ-loop
+same-length-2 c = c .before .before .before .loop .inv .0
+
+returns-3 : tie.Need-returns-3 Inv-loop μ-loop
+returns-3 c =
+    let g = c .before .before .before .before .before .before .before .before .args in
+    let e = toZ-ofZ w32 (g .d) (c .before .before .before .before .before .before .before .before .fits .d) in
+    let C : ℕ → ℤ = topPad (g .b .now) (toZ w32 (ofZ w32 (g .d))) in
+    let W : List ℕ = take (g .at) (g .out .now) ++ wireText (g .line) (drawn (length (g .a .now)) (pad (g .a .now)) C) (g .i) (g .track) (g .s - g .track) in
+    let ec = back (c .before .before .before .before .before .top-column .result) (c .before .before .before .before .before .top-column .ok) ∙ c .before .before .before .before .before .top-column .ensures in
+    record {
+      gave = rw e at (wire-still (g .line) (g .s) (length (g .a .now)) (pad (g .a .now)) C (c .before .before .before .before .before .before .before .before .pre .0 .rows .bottom .rising) (g .i) W (c .before .before .before .loop .out) (c .before .before .before .loop .t) (c .before .before .before .loop .p) (toZ w32 (c .before .before .before .loop .x)) (toZ w32 (ofZ w32 (c .before .before .before .before .before .top-column .result)))
+          (c .before .before .before .before .before .before .before .before .pre .1) (c .before .before .before .loop .inv .2) ec (sym (c .before .differs .ensures) ∙ c .if2 .left) (c .before .before .before .loop .inv .3));
+      far = λ h. absurd (omega arith);
+    }
+
+same-length-3 : tie.Need-same-length-3 Inv-loop μ-loop
+same-length-3 c = c .before .loop .inv .0
+
+returns-4 : tie.Need-returns-4 Inv-loop μ-loop
+returns-4 c =
+    let e = toZ-ofZ w32 (c .before .before .before .before .before .before .args .d) (c .before .before .before .before .before .before .fits .d) in
+    record { gave = rw e at (c .before .loop .inv .3); far = λ h. absurd (omega (arith, c .loop-test .left)) }
+
+pub give-wire-spec : {M : Type 1} → statement M
+give-wire-spec =
+    tie.close
+    (tie.spec
+    Inv-loop
+    μ-loop
+    returns
+    top-column-requires
+    column-requires
+    loop-holds
+    differs-requires
+    add-column
+    column-requires-2
+    give-track-requires
+    add-t
+    loop-less
+    loop-again
+    same-length
+    returns-2
+    same-length-2
+    returns-3
+    same-length-3
+    returns-4)

@@ -1,0 +1,28 @@
+use mathlib.Core.Path.{sym, _∙_}
+use borrow.Author.Tests.{eq-eqb, ne-eqb}
+use borrow.Author.Needs.{needs}
+use Rattle.sheet.proofs.state.done.Statement.{statement}
+use Rattle.sheet.proofs.state.done.Tie as tie
+
+show-requires : tie.Need-show-requires
+show-requires c κs = search needs
+
+owing-requires : tie.Need-owing-requires
+owing-requires c κs = search needs
+
+returns : tie.Need-returns
+returns c = c .owing .ensures ∙ simp (c .before .show .ensures, eq-eqb _ _ (c .before .before .if1 .taken))
+
+show-requires-2 : tie.Need-show-requires-2
+show-requires-2 c κs = search needs
+
+owing-requires-2 : tie.Need-owing-requires-2
+owing-requires-2 c κs = search needs
+
+returns-2 : tie.Need-returns-2
+returns-2 c = c .owing2 .ensures ∙ simp (c .before .show2 .ensures, ne-eqb _ _ (c .before .before .if1 .left))
+
+pub done-spec : {M : Type 1} → statement M
+done-spec =
+    tie.close
+    (tie.spec show-requires owing-requires returns show-requires-2 owing-requires-2 returns-2)

@@ -1,0 +1,64 @@
+use mathlib.Core.Path.{sym, _∙_}
+use borrow.Author.Tests.{le-leb, lt-leb, lt-ltb, le-ltb, eq-eqb, ne-eqb}
+use Rattle.sheet.specs.Steps.{headed}
+use borrow.Author.Needs.{needs}
+use Rattle.sheet.proofs.state.head.Statement.{statement}
+use Rattle.sheet.proofs.state.head.Tie as tie
+
+with-line-requires : tie.Need-with-line-requires
+with-line-requires c κs = search needs
+
+refuse-requires : tie.Need-refuse-requires
+refuse-requires c κs = search needs
+
+returns : tie.Need-returns
+unfolding headed
+returns c = c .refuse .ensures ∙ sym (simp (sym (c .before .before .with-line .ensures), le-leb _ _ (c .before .if1 .taken)))
+
+has-line-requires : tie.Need-has-line-requires
+has-line-requires c κs = search needs
+
+refuse-requires-2 : tie.Need-refuse-requires-2
+refuse-requires-2 c κs = search needs
+
+returns-2 : tie.Need-returns-2
+unfolding headed
+returns-2 c = c .refuse2 .ensures ∙ sym (simp (sym (c .before .before .before .before .with-line .ensures), lt-leb _ _ (c .before .before .before .if1 .left), sym (c .before .before .has-line .ensures), c .before .if2 .taken))
+
+refuse-requires-3 : tie.Need-refuse-requires-3
+refuse-requires-3 c κs = search needs
+
+returns-3 : tie.Need-returns-3
+unfolding headed
+returns-3 c = c .refuse3 .ensures ∙ sym (simp (sym (c .before .before .before .before .before .with-line .ensures), lt-leb _ _ (c .before .before .before .before .if1 .left), sym (c .before .before .before .has-line .ensures), c .before .before .if2 .left, eq-eqb _ _ (c .before .if3 .taken)))
+
+refuse-requires-4 : tie.Need-refuse-requires-4
+refuse-requires-4 c κs = search needs
+
+returns-4 : tie.Need-returns-4
+unfolding headed
+returns-4 c = c .refuse4 .ensures ∙ sym (simp (sym (c .before .before .before .before .before .before .with-line .ensures), lt-leb _ _ (c .before .before .before .before .before .if1 .left), sym (c .before .before .before .before .has-line .ensures), c .before .before .before .if2 .left, ne-eqb _ _ (c .before .before .if3 .left), lt-ltb _ _ (c .before .if4 .taken)))
+
+quiet-requires : tie.Need-quiet-requires
+quiet-requires c κs = search needs
+
+returns-5 : tie.Need-returns-5
+unfolding headed
+returns-5 c = c .quiet .ensures ∙ sym (simp (sym (c .before .before .before .before .before .before .with-line .ensures), lt-leb _ _ (c .before .before .before .before .before .if1 .left), sym (c .before .before .before .before .has-line .ensures), c .before .before .before .if2 .left, ne-eqb _ _ (c .before .before .if3 .left), le-ltb _ _ (c .before .if4 .left)))
+
+pub head-spec : {M : Type 1} → statement M
+head-spec =
+    tie.close
+    (tie.spec
+    with-line-requires
+    refuse-requires
+    returns
+    has-line-requires
+    refuse-requires-2
+    returns-2
+    refuse-requires-3
+    returns-3
+    refuse-requires-4
+    returns-4
+    quiet-requires
+    returns-5)

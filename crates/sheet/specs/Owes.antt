@@ -1,0 +1,170 @@
+-- What a state stands for, and what the calls promise. The state is a handful of numbers; the line so far and the rows are in lent memory.
+--
+-- `owes s line a b rest` is all that is still to come out, for any rest of the sheet. A fresh state owes `answers sheet`; each call hands out a
+-- part of what is owed and leaves a state that owes what is left. So whatever the pieces are, what comes out in all is `answers sheet`
+-- (the law `whole-sheet` of proofs/Feeds.antt).
+use mathlib.Core.Bool.{Bool, true, false, cond}
+use mathlib.Core.Path.{_≡_}
+use mathlib.Core.List.{List, [], _∷_, _++_}
+use Prim.Native.Nat.{ℕ, _+_, _-_, _<_, _≤_}
+use lib.Dec.{eqb, ltb, leb}
+use lib.ListN.{length, getD, take, drop, set}
+use lib.IntN.{ℤ}
+use Rattle.wiring.specs.Wiring.{pad, topPad}
+use Rattle.wiring.specs.Drawing.{drawn}
+use Rattle.jumper.specs.Limits.{maxPairs}
+use Rattle.jumper.specs.Rows.{checkedNumbers}
+use Rattle.jumper.specs.Asked.{checkAsked}
+use Rattle.jumper.specs.declared.refusal.Refusal.the-variants.{Sequence}
+use Rattle.frame.specs.Frame.{Frame, bad, textFrame}
+use Rattle.frame.specs.Written.{answerLine}
+use Rattle.sheet.specs.Route.{wireText, wiresText}
+use Rattle.sheet.specs.Machine.{Mode, ready, inside, skipping, refusalText, react, noted, machine, answers}
+use Rattle.sheet.specs.Steps.{hasLine, isHeld}
+use Rattle.sheet.specs.declared.state.Phase.{Phase}
+use Rattle.sheet.specs.declared.state.Phase.the-variants.{Ready, Inside, Skipping}
+use Rattle.sheet.specs.declared.state.State.{State}
+
+-- where the machine is. A state that no call made, whose counts can't be, stands for one that skips
+abbrev pub modeBy : Phase → Mode → Mode
+modeBy Ready m = ready
+modeBy Inside m = m
+modeBy Skipping m = skipping
+
+unfoldable pub modeOf : State → List ℤ → List ℤ → Mode
+modeOf s a b = modeBy (s .phase) (cond (isHeld s) (inside (s .order) (take (s .bottom) a) (take (s .top) b)) skipping)
+
+-- which line numbers were seen
+abbrev pub seenBy : State → ℕ → Bool
+seenBy s l = hasLine (s .seen) l
+
+-- the frames of what is left of a sheet, where the current line has this text so far; a last line without its line feed is bad
+unfoldable pub lastFrame : List ℕ → List Frame
+lastFrame [] = []
+lastFrame (b ∷ bs) = bad ∷ []
+
+unfoldable pub framesFrom : List ℕ → List ℕ → List Frame
+framesFrom text [] = lastFrame text
+framesFrom text (b ∷ bs) = cond (eqb b 10) (textFrame text ∷ framesFrom [] bs) (framesFrom (text ++ (b ∷ [])) bs)
+
+-- the frames 21 of a route from wire i and its track t on
+unfoldable pub routeLeft : (l s : ℕ) (d : ℤ) (a b : List ℤ) (i t : ℕ) → List ℕ
+routeLeft l s d a b i t =
+    cond (ltb i (length a))
+    (wireText l (drawn (length a) (pad a) (topPad b d)) i t (s - t) ++ wiresText l (drawn (length a) (pad a) (topPad b d)) s (i + 1) (length a - (i + 1)))
+    []
+
+-- rows, a separation and an offset that are accepted
+abbrev pub isAsked : (a b : List ℤ) (s : ℕ) (d : ℤ) → Bool
+isAsked a b s d = eqb (checkedNumbers (checkAsked a b s d) .refusal) 0
+
+-- what is still to write: the 20 of a line that was cut off, a 20, and the rest of a route, whose rows are in lent memory
+abbrev pub cutText : State → List ℕ
+cutText s = cond (s .cut) (refusalText (s .former) Sequence) []
+
+abbrev pub dueText : State → List ℕ
+dueText s = cond (s .due) (answerLine (s .answer)) []
+
+abbrev pub wiredText : State → List ℤ → List ℤ → List ℕ
+wiredText s a b = cond (isAsked a b (s .answer .separation) (s .answer .lowest)) (routeLeft (s .answer .line) (s .answer .separation) (s .answer .lowest) a b (s .wire) (s .track)) []
+
+unfoldable pub leftText : State → List ℤ → List ℤ → List ℕ
+leftText s a b = cond (leb (s .wires) maxPairs) (wiredText s (take (s .wires) a) (take (s .wires) b)) []
+
+unfoldable pub pending : State → List ℤ → List ℤ → List ℕ
+pending s a b = cutText s ++ (dueText s ++ leftText s a b)
+
+-- what the machine will answer to the rest of the sheet
+unfoldable pub later : State → List ℕ → List ℤ → List ℤ → List ℕ → List ℕ
+later s line a b rest = machine (seenBy s) (modeOf s a b) (framesFrom (take (s .at) line) rest)
+
+unfoldable pub owes : State → List ℕ → List ℤ → List ℤ → List ℕ → List ℕ
+owes s line a b rest = pending s a b ++ later s line a b rest
+
+-- whether anything may be left to write
+unfoldable pub isBusy : State → Bool
+isBusy s = cond (s .cut) true (cond (s .due) true (cond (leb (s .wires) maxPairs) (ltb (s .wire) (s .wires)) false))
+
+-- What `fresh` promises.
+pub record Fresh (s : State) : Type 0 where
+  pub owed : (line : List ℕ) (a b : List ℤ) (sheet : List ℕ) → owes s line a b sheet ≡ answers sheet
+
+-- What `feed` promises: a piece of the sheet is taken in as far as `used`, and what it calls for stands in the buffer from place `from` to place
+-- `to`. It stops before the piece ends only where the next frame has no room.
+pub record Fed (s : State) (line : List ℕ) (a b : List ℤ) (piece out : List ℕ) (from : ℕ) (r : State) (used to : ℕ) (line' : List ℕ) (a' b' : List ℤ) (out' : List ℕ) : Type 0 where
+  pub owed : (rest : List ℕ) → take from out ++ owes s line a b (piece ++ rest) ≡ take to out' ++ owes r line' a' b' (drop used piece ++ rest)
+  pub within : used ≤ length piece
+  pub far : used < length piece → length out < to + 35
+
+-- What `give` promises: what is still to write stands in the buffer from place `from` to place `to`. It stops only where the next frame has no room.
+pub record Given (s : State) (a b : List ℤ) (out : List ℕ) (from : ℕ) (r : State) (to : ℕ) (out' : List ℕ) : Type 0 where
+  pub gave : take from out ++ pending s a b ≡ take to out' ++ pending r a b
+  pub same : (line rest : List ℕ) → later r line a b rest ≡ later s line a b rest
+  pub far : isBusy r ≡ true → length out < to + 35
+
+-- What `finish` promises: the sheet ends here. With nothing left to write before, all that is owed is written after.
+pub record Finished (s : State) (line : List ℕ) (a b : List ℤ) (r : State) : Type 0 where
+  pub owed : owes s line a b [] ≡ owes r line a b []
+  pub ended : isBusy s ≡ false → later r line a b [] ≡ []
+  pub busy : isBusy s ≡ true → r ≡ s
+
+-- What the parts of the code promise each other.
+
+-- a line's text f is taken in where nothing is to be written
+pub record Reacted (s : State) (a b : List ℤ) (f : Frame) (r : State) (a' b' : List ℤ) : Type 0 where
+  pub out : pending r a' b' ≡ react (seenBy s) (modeOf s a b) f .out
+  pub to : modeOf r a' b' ≡ react (seenBy s) (modeOf s a b) f .to
+  pub seen : (l : ℕ) → l < 64 → seenBy r l ≡ noted (seenBy s) f l
+  pub begun : r .at ≡ 0
+
+-- a byte is stored at place `at` if it has room there
+pub record StoredIn (line : List ℕ) (at b at' : ℕ) (line' : List ℕ) : Type 0 where
+  pub room : at < length line → (at' ≡ at + 1) × (line' ≡ set line at b)
+  pub full : length line ≤ at → (at' ≡ at) × (line' ≡ line)
+
+-- bytes of a piece from i on are kept as text, up to a line feed or the piece's end
+pub record Kept (line : List ℕ) (at : ℕ) (piece : List ℕ) (i at' i' : ℕ) (line' : List ℕ) : Type 0 where
+  pub frames : (rest : List ℕ) → framesFrom (take at line) (drop i piece ++ rest) ≡ framesFrom (take at' line') (drop i' piece ++ rest)
+  pub within : i' ≤ length piece
+  pub ahead : i ≤ i'
+  pub feed : i' < length piece → getD piece i' 0 ≡ 10
+
+-- a piece is taken in as far as `used`, until something is to be written
+pub record TakenIn (s : State) (line : List ℕ) (a b : List ℤ) (piece : List ℕ) (r : State) (used : ℕ) (line' : List ℕ) (a' b' : List ℤ) : Type 0 where
+  pub owed : (rest : List ℕ) → owes s line a b (piece ++ rest) ≡ owes r line' a' b' (drop used piece ++ rest)
+  pub within : used ≤ length piece
+  pub far : isBusy r ≡ false → used ≡ length piece
+  pub some : isBusy s ≡ false → 0 < length piece → 0 < used
+
+-- a part of what is still to write was written
+pub record GivenOn (s : State) (out : List ℕ) (from : ℕ) (r : State) (to : ℕ) (out' : List ℕ) : Type 0 where
+  pub gave : (a b : List ℤ) → take from out ++ pending s a b ≡ take to out' ++ pending r a b
+  pub same : (line : List ℕ) (a b : List ℤ) (rest : List ℕ) → later r line a b rest ≡ later s line a b rest
+
+pub record CutGiven (s : State) (out : List ℕ) (from : ℕ) (r : State) (to : ℕ) (out' : List ℕ) : Type 0 where
+  pub part : GivenOn s out from r to out'
+  pub far : r .cut ≡ true → length out < to + 35
+
+pub record DueGiven (s : State) (out : List ℕ) (from : ℕ) (r : State) (to : ℕ) (out' : List ℕ) : Type 0 where
+  pub part : GivenOn s out from r to out'
+  pub quiet : r .cut ≡ false
+  pub far : r .due ≡ true → length out < to + 35
+
+-- the frames 21 of a route, and of one wire, written as far as they have room
+pub record RouteOut (l s : ℕ) (d : ℤ) (a b : List ℤ) (i t : ℕ) (out : List ℕ) (from : ℕ) (i' t' to : ℕ) (out' : List ℕ) : Type 0 where
+  pub gave : take from out ++ routeLeft l s d a b i t ≡ take to out' ++ routeLeft l s d a b i' t'
+  pub far : i' < length a → length out < to + 35
+
+pub record WireOut (l s : ℕ) (d : ℤ) (a b : List ℤ) (i t : ℕ) (out : List ℕ) (from : ℕ) (t' to : ℕ) (out' : List ℕ) : Type 0 where
+  pub gave : take from out ++ wireText l (drawn (length a) (pad a) (topPad b d)) i t (s - t) ≡ take to out' ++ wireText l (drawn (length a) (pad a) (topPad b d)) i t' (s - t')
+  pub far : t' < s → length out < to + 35
+
+-- the same, of rows that may not be accepted: then there is nothing to write
+pub record AskedOut (l s : ℕ) (d : ℤ) (a b : List ℤ) (i t : ℕ) (out : List ℕ) (from : ℕ) (i' t' to : ℕ) (out' : List ℕ) : Type 0 where
+  pub gave : take from out ++ cond (isAsked a b s d) (routeLeft l s d a b i t) [] ≡ take to out' ++ cond (isAsked a b s d) (routeLeft l s d a b i' t') []
+  pub far : i' < length a → length out < to + 35
+
+-- one track of a wire
+pub record TrackOut (text out : List ℕ) (from : ℕ) (done : Bool) (to : ℕ) (out' : List ℕ) : Type 0 where
+  pub wrote : done ≡ true → take to out' ≡ take from out ++ text
+  pub full : done ≡ false → (to ≡ from) × (out' ≡ out) × (length out < from + 35)

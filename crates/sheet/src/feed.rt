@@ -1,0 +1,170 @@
+// A sheet taken in.
+ghost use mathlib.Core.Path.{_≡_};
+ghost use mathlib.Core.Bool.{false};
+ghost use mathlib.Core.List.{List};
+ghost use Prim.Native.Nat.{_≤_};
+ghost use lib.ListN.{length};
+ghost use lib.IntN.{ℤ};
+ghost use Rattle.sheet.specs.Owes.{StoredIn, Kept, TakenIn, Fed, Finished};
+use crate::give::give_all;
+use crate::state::Phase;
+use crate::state::State;
+use crate::state::busy;
+use crate::state::held;
+use crate::state::refuse;
+use crate::state::skip;
+use crate::step::on_line;
+use jumper::refusal::Refusal;
+
+// A state, how much of the piece was taken in, and the place after what was written.
+pub struct Feeding {
+    pub s: State,
+    pub used: usize,
+    pub n: usize,
+}
+
+struct Keeping {
+    at: usize,
+    i: usize,
+}
+
+struct Taking {
+    s: State,
+    used: usize,
+}
+
+// A byte of a line, if it has room. A line that has none is longer than any good one.
+fn store(line: &mut [u8], at: usize, b: u8) -> usize
+    ensures { λ r. ⌜ StoredIn (now (line .entry)) at b r (now (line .exit)) ⌝ }
+{
+    if at < line.len() {
+        line[at] = b;
+        return at + 1;
+    }
+    at
+}
+
+// The bytes of a piece from place `from` on, up to a line feed or the piece's end.
+fn keep(line: &mut [u8], at: usize, piece: &[u8], from: usize) -> Keeping
+    requires { ⌜ (length (now line) ≡ 160) × (from ≤ length (now piece)) ⌝ }
+    ensures { λ r. ⌜ Kept (now (line .entry)) at (now (piece .entry)) from (r .at) (r .i) (now (line .exit)) ⌝ }
+{
+    let mut n = at;
+    let mut i = from;
+    while i < piece.len() {
+        let b = piece[i];
+        if b == 10 {
+            return Keeping { at: n, i };
+        }
+        n = store(line, n, b);
+        i += 1;
+    }
+    Keeping { at: n, i }
+}
+
+// Takes a piece in until something is to be written, or the piece ends.
+fn take_in(line: &mut [u8], a: &mut [i32], b: &mut [i32], s: State, piece: &[u8]) -> Taking
+    requires { ⌜ (length (now line) ≡ 160) × (length (now a) ≡ 2048) × (length (now b) ≡ 2048) ⌝ }
+    ensures { λ r. ⌜ TakenIn s (now (line .entry)) (now (a .entry)) (now (b .entry)) (now (piece .entry)) (r .s) (r .used) (now (line .exit)) (now (a .exit)) (now (b .exit)) ⌝ }
+{
+    let mut st = s;
+    let mut i: usize = 0;
+    while i < piece.len() {
+        if busy(st) {
+            return Taking { s: st, used: i };
+        }
+        let k = keep(line, st.at, piece, i);
+        st.at = k.at;
+        i = k.i;
+        if piece.len() <= i {
+            return Taking { s: st, used: i };
+        }
+        st = on_line(line, a, b, st);
+        i += 1;
+    }
+    Taking { s: st, used: i }
+}
+
+// Over slices, whose lengths are told.
+fn feed_on(
+    line: &mut [u8],
+    a: &mut [i32],
+    b: &mut [i32],
+    s: State,
+    piece: &[u8],
+    out: &mut [u8],
+    at: usize,
+) -> Feeding
+    requires { ⌜ (length (now line) ≡ 160) × (length (now a) ≡ 2048) × (length (now b) ≡ 2048) ⌝ }
+    ensures { λ r. ⌜ Fed s (now (line .entry)) (now (a .entry)) (now (b .entry)) (now (piece .entry)) (now (out .entry)) at (r .s) (r .used) (r .n) (now (line .exit)) (now (a .exit)) (now (b .exit)) (now (out .exit)) ⌝ }
+{
+    let mut st = s;
+    let mut used: usize = 0;
+    let mut n = at;
+    while used < piece.len() {
+        let g = give_all(a, b, st, out, n);
+        st = g.s;
+        n = g.n;
+        if busy(st) {
+            return Feeding { s: st, used, n };
+        }
+        let t = take_in(line, a, b, st, &piece[used..]);
+        st = t.s;
+        used += t.used;
+    }
+    Feeding { s: st, used, n }
+}
+
+// A piece of a sheet taken in, and what it calls for written from place `at` of the buffer on, until the piece ends or the buffer has no room.
+pub fn feed(
+    line: &mut [u8; 160],
+    a: &mut [i32; 2048],
+    b: &mut [i32; 2048],
+    s: State,
+    piece: &[u8],
+    out: &mut [u8],
+    at: usize,
+) -> Feeding
+    ensures { λ r. ⌜ Fed s (now (line .entry)) (now (a .entry)) (now (b .entry)) (now (piece .entry)) (now (out .entry)) at (r .s) (r .used) (r .n) (now (line .exit)) (now (a .exit)) (now (b .exit)) (now (out .exit)) ⌝ }
+{
+    feed_on(line, a, b, s, piece, out, at)
+}
+
+// Over a slice, whose length is told.
+fn finish_on(line: &[u8], s: State) -> State
+    requires { ⌜ length (now line) ≡ 160 ⌝ }
+    ensures { λ r. ⌜ ((a b : List ℤ) → Finished s (now (line .entry)) a b r) ⌝ }
+{
+    if busy(s) {
+        return s;
+    }
+    let at = s.at;
+    let seen = s.seen;
+    let open = s.order.line;
+    let phase = s.phase;
+    match phase {
+        Phase::Ready => {
+            if at == 0 {
+                return skip(seen);
+            }
+            refuse(255, Refusal::Frame, seen)
+        }
+        Phase::Skipping => skip(seen),
+        Phase::Inside => {
+            if held(s) {
+                if at == 0 {
+                    return refuse(open, Refusal::Sequence, seen);
+                }
+                return refuse(open, Refusal::Frame, seen);
+            }
+            skip(seen)
+        }
+    }
+}
+
+// The sheet ends. A last line without its line feed is a bad frame, and an open line is out of sequence.
+pub fn finish(line: &[u8; 160], s: State) -> State
+    ensures { λ r. ⌜ ((a b : List ℤ) → Finished s (now (line .entry)) a b r) ⌝ }
+{
+    finish_on(line, s)
+}

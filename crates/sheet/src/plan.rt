@@ -1,0 +1,15 @@
+// What a complete line is answered: the form's answer to the wish of its header.
+ghost use Prim.Native.Nat.{_≤_};
+ghost use lib.ListN.{length, take};
+ghost use Rattle.sheet.specs.Planned.{PlanTold};
+use form::plan::plan;
+use form::wish::wish_of;
+use jumper::refusal::Numbers;
+
+// Of the first n columns of both rows.
+pub(crate) fn plan_first(a: &[i32], b: &[i32], n: usize, separation: u32, offset: i32) -> Numbers
+    requires { ⌜ (n ≤ length (now a)) × (n ≤ length (now b)) ⌝ }
+    ensures { λ r. ⌜ PlanTold separation offset (take n (now (a .entry))) (take n (now (b .entry))) r ⌝ }
+{
+    plan(wish_of(separation, offset), &a[..n], &b[..n])
+}

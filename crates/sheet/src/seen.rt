@@ -1,0 +1,20 @@
+// The line numbers that good headers had, as bits of one number.
+ghost use mathlib.Core.Path.{_≡_};
+ghost use Prim.Native.Nat.{_<_};
+ghost use Rattle.sheet.specs.Steps.{hasLine, withLine};
+
+pub(crate) fn has_line(seen: u64, line: u8) -> bool
+    requires { ⌜ line < 64 ⌝ }
+    ensures { λ r. ⌜ r ≡ hasLine seen line ⌝ }
+{
+    (seen >> line) % 2 == 1
+}
+
+pub(crate) fn with_line(seen: u64, line: u8) -> u64
+    ensures { λ r. ⌜ r ≡ withLine seen line ⌝ }
+{
+    if 64 <= line {
+        return seen;
+    }
+    seen | (1u64 << line)
+}

@@ -1,0 +1,138 @@
+// A whole line of text taken in (01's machine), where nothing is to be written.
+ghost use mathlib.Core.Path.{_≡_};
+ghost use mathlib.Core.Bool.{true, false};
+ghost use Prim.Native.Nat.{_+_, _≤_};
+ghost use lib.ListN.{length, take};
+ghost use Rattle.frame.specs.Frame.{textFrame, saidOf};
+ghost use Rattle.sheet.specs.Steps.{isHeld, readyTo, skippingTo, BottomPut, TopPut};
+ghost use Rattle.sheet.specs.Owes.{Reacted};
+use crate::plan::plan_first;
+use crate::state::Phase;
+use crate::state::State;
+use crate::state::cut_off;
+use crate::state::done;
+use crate::state::head;
+use crate::state::held;
+use crate::state::quiet;
+use crate::state::refuse;
+use crate::state::skip;
+use frame::read::Order;
+use frame::read::Said;
+use frame::read::columns;
+use frame::read::read_text;
+use jumper::refusal::Refusal;
+
+// Line FF: no line is open.
+const NO_LINE: u8 = 255;
+
+fn on_ready(s: State, said: Said) -> State
+    ensures { λ r. ⌜ r ≡ readyTo s said ⌝ }
+{
+    let seen = s.seen;
+    match said {
+        Said::Bad => refuse(NO_LINE, Refusal::Frame, seen),
+        Said::Header(o) => head(s, o),
+        Said::Bottom(_, _) => refuse(NO_LINE, Refusal::Sequence, seen),
+        Said::Top(_, _) => refuse(NO_LINE, Refusal::Sequence, seen),
+    }
+}
+
+fn on_skipping(s: State, said: Said) -> State
+    ensures { λ r. ⌜ r ≡ skippingTo s said ⌝ }
+{
+    let seen = s.seen;
+    match said {
+        Said::Bad => skip(seen),
+        Said::Header(o) => head(s, o),
+        Said::Bottom(_, _) => skip(seen),
+        Said::Top(_, _) => skip(seen),
+    }
+}
+
+fn on_bottom(text: &[u8], a: &mut [i32], s: State, line: u8, k: usize) -> State
+    requires { ⌜ isHeld s ≡ true ⌝ }
+    ensures { λ r. ⌜ BottomPut s (now (text .entry)) (now (a .entry)) line k r (now (a .exit)) ⌝ }
+{
+    let order = s.order;
+    let seen = s.seen;
+    let bottom = s.bottom;
+    let top = s.top;
+    if line == order.line {
+        if k <= order.pairs - bottom {
+            columns(text, k, a, bottom);
+            return quiet(Phase::Inside, order, bottom + k, top, seen);
+        }
+        return refuse(order.line, Refusal::Sequence, seen);
+    }
+    refuse(order.line, Refusal::Sequence, seen)
+}
+
+fn on_top(text: &[u8], a: &[i32], b: &mut [i32], s: State, line: u8, k: usize) -> State
+    requires { ⌜ (isHeld s ≡ true) × (length (now a) ≡ 2048) × (length (now b) ≡ 2048) ⌝ }
+    ensures { λ r. ⌜ TopPut s (now (text .entry)) (now (a .entry)) (now (b .entry)) line k r (now (b .exit)) ⌝ }
+{
+    let order = s.order;
+    let seen = s.seen;
+    let bottom = s.bottom;
+    let top = s.top;
+    if line == order.line {
+        if bottom == order.pairs {
+            if k <= order.pairs - top {
+                columns(text, k, b, top);
+                if top + k == order.pairs {
+                    return done(
+                        s,
+                        plan_first(a, b, order.pairs, order.separation, order.offset),
+                    );
+                }
+                return quiet(Phase::Inside, order, bottom, top + k, seen);
+            }
+            return refuse(order.line, Refusal::Sequence, seen);
+        }
+        return refuse(order.line, Refusal::Sequence, seen);
+    }
+    refuse(order.line, Refusal::Sequence, seen)
+}
+
+fn on_inside(text: &[u8], a: &mut [i32], b: &mut [i32], s: State) -> State
+    requires { ⌜ (isHeld s ≡ true) × (s .phase ≡ Phase.Inside) × (length (now a) ≡ 2048) × (length (now b) ≡ 2048) ⌝ }
+    ensures { λ r. ⌜ Reacted s (now (a .entry)) (now (b .entry)) (textFrame (now (text .entry))) r (now (a .exit)) (now (b .exit)) ⌝ }
+{
+    let line = s.order.line;
+    let seen = s.seen;
+    match read_text(text) {
+        Said::Bad => refuse(line, Refusal::Frame, seen),
+        Said::Header(o) => cut_off(line, head(s, o)),
+        Said::Bottom(l, k) => on_bottom(text, a, s, l, k),
+        Said::Top(l, k) => on_top(text, a, b, s, l, k),
+    }
+}
+
+fn on_text(text: &[u8], a: &mut [i32], b: &mut [i32], s: State) -> State
+    requires { ⌜ (length (now a) ≡ 2048) × (length (now b) ≡ 2048) ⌝ }
+    ensures { λ r. ⌜ Reacted s (now (a .entry)) (now (b .entry)) (textFrame (now (text .entry))) r (now (a .exit)) (now (b .exit)) ⌝ }
+{
+    let phase = s.phase;
+    match phase {
+        Phase::Ready => on_ready(s, read_text(text)),
+        Phase::Skipping => on_skipping(s, read_text(text)),
+        Phase::Inside => {
+            if held(s) {
+                return on_inside(text, a, b, s);
+            }
+            on_skipping(s, read_text(text))
+        }
+    }
+}
+
+// The text is the first `at` bytes of the lent line.
+pub(crate) fn on_line(line: &[u8], a: &mut [i32], b: &mut [i32], s: State) -> State
+    requires { ⌜ (length (now a) ≡ 2048) × (length (now b) ≡ 2048) ⌝ }
+    ensures { λ r. ⌜ Reacted s (now (a .entry)) (now (b .entry)) (textFrame (take (s .at) (now (line .entry)))) r (now (a .exit)) (now (b .exit)) ⌝ }
+{
+    let at = s.at;
+    if at <= line.len() {
+        return on_text(&line[..at], a, b, s);
+    }
+    on_text(line, a, b, s)
+}
