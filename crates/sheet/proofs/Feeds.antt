@@ -9,7 +9,8 @@ use native.Mathlib.Omega.{arith}
 use lib.ListN.{length, drop, take, length-drop}
 use lib.Seq.{take-all, drop-drop}
 use Rattle.sheet.specs.Machine.{answers}
-use Rattle.sheet.specs.Owes.{pending, later, owes, isBusy, Fresh, Given, TakenIn, Fed, Finished}
+use Rattle.sheet.specs.Owes.{pending, later, owes, isBusy, Fresh, Given, Fed, Finished}
+use Rattle.sheet.specs.Parts.{TakenIn}
 use Rattle.sheet.specs.declared.state.State.{State}
 use Rattle.sheet.proofs.Steps.{not-busy}
 
@@ -46,10 +47,10 @@ module _ (piece P : List ℕ) (used : ℕ) (e : P ≡ drop used piece) where
 
 -- ---- a run of calls
 
--- from a state, the lent memory and the sheet that is left, to the same later on, with what was written on the way: calls of `feed`, of `give`,
--- and at the end of the sheet of `finish`, each into a buffer from its start
+-- from a state, the lent memory and the sheet that is left, to the same later on, with what was written on the way: calls of `feed` and of `give`,
+-- each into a buffer from its start
 pub data Run : State → List ℕ → List ℤ → List ℤ → List ℕ → List ℕ → State → List ℕ → List ℤ → List ℤ → List ℕ → Type 0 where
-  done : {s : State} {line : List ℕ} {a b : List ℤ} {sheet : List ℕ} → Run s line a b sheet [] s line a b sheet
+  here : {s : State} {line : List ℕ} {a b : List ℤ} {sheet : List ℕ} → Run s line a b sheet [] s line a b sheet
   feeds : {s r t : State} {line line' l piece out out' w left : List ℕ} {a b a' b' x y : List ℤ} {used to : ℕ} (rest : List ℕ)
       → Fed s line a b piece out 0 r used to line' a' b' out'
       → Run r line' a' b' (drop used piece ++ rest) w t l x y left
@@ -58,25 +59,34 @@ pub data Run : State → List ℕ → List ℤ → List ℤ → List ℕ → Lis
       → Given s a b out 0 r to out'
       → Run r line a b sheet w t l x y left
       → Run s line a b sheet (take to out' ++ w) t l x y left
-  ends : {s r t : State} {line l w left : List ℕ} {a b x y : List ℤ}
-      → Finished s line a b r
-      → Run r line a b [] w t l x y left
-      → Run s line a b [] w t l x y left
 
 pub run-owes : {s t : State} {line sheet w l left : List ℕ} {a b x y : List ℤ} → Run s line a b sheet w t l x y left → owes s line a b sheet ≡ w ++ owes t l x y left
-run-owes done = refl
+run-owes here = refl
 run-owes (feeds {out' = out'} {w = w} {to = to} rest f p) = f .owed rest ∙ ap (λ (z : List ℕ). take to out' ++ z) (run-owes p) ∙ sym (append-assoc (take to out') w _)
 run-owes (gives {s = s} {r = r} {line = line} {out = out} {out' = out'} {w = w} {sheet = sheet} {a = a} {b = b} {to = to} g p) =
     gave-on s r line a b out out' 0 to g sheet ∙ ap (λ (z : List ℕ). take to out' ++ z) (run-owes p) ∙ sym (append-assoc (take to out') w _)
-run-owes (ends f p) = f .owed ∙ run-owes p
 
--- THE LAW: a run from a fresh state over the whole sheet, that finishes where nothing is left to write and ends where nothing is left to write,
--- writes the answer to the sheet
-pub whole-sheet : {s u v t : State} {line sheet w l w' m : List ℕ} {a b x y x' y' : List ℤ} → Fresh s
-    → Run s line a b sheet w u l x y [] → isBusy u ≡ false → Finished u l x y v
-    → Run v l x y [] w' t m x' y' [] → isBusy t ≡ false → later t m x' y' [] ≡ []
-    → answers sheet ≡ w ++ w'
+-- after the end: calls of `give` alone
+pub data Drain (a b : List ℤ) : State → List ℕ → State → Type 0 where
+  dry : {s : State} → Drain a b s [] s
+  gives : {s r t : State} {out out' w : List ℕ} {to : ℕ} → Given s a b out 0 r to out' → Drain a b r w t → Drain a b s (take to out' ++ w) t
+
+drained : {s t : State} {a b : List ℤ} {w : List ℕ} (line : List ℕ) → Drain a b s w t → (owes s line a b [] ≡ w ++ owes t line a b []) × (later t line a b [] ≡ later s line a b [])
+drained line dry = (refl, refl)
+drained {a = a} {b = b} line (gives {s = s} {r = r} {out = out} {out' = out'} {w = w} {to = to} g p) =
+    let d = drained line p in
+    (gave-on s r line a b out out' 0 to g [] ∙ ap (λ (z : List ℕ). take to out' ++ z) (d .0) ∙ sym (append-assoc (take to out') w _), d .1 ∙ g .same line [])
+
+-- THE LAW: run from a fresh state over the whole sheet until nothing is left to write, finish, and give until nothing is left to write. What was
+-- written in all is the answer to the sheet
+pub whole-sheet : {s u v t : State} {line sheet w l w' : List ℕ} {a b x y : List ℤ} → Fresh s → Run s line a b sheet w u l x y [] → isBusy u ≡ false → Finished u l x y v
+    → Drain x y v w' t → isBusy t ≡ false → w ++ w' ≡ answers sheet
 unfolding owes
-whole-sheet {s = s} {t = t} {line = line} {sheet = sheet} {w = w} {w' = w'} {m = m} {a = a} {b = b} {x' = x'} {y' = y'} f p idle g q idle' last =
-    sym (f .owed line a b sheet) ∙ run-owes p
-    ∙ ap (λ (z : List ℕ). w ++ z) (g .owed ∙ run-owes q ∙ ap (λ (z : List ℕ). w' ++ (z ++ later t m x' y' [])) (not-busy t x' y' idle') ∙ ap (λ (z : List ℕ). w' ++ z) last ∙ append-nil w')
+whole-sheet {t = t} {line = line} {sheet = sheet} {w = w} {l = l} {w' = w'} {a = a} {b = b} {x = x} {y = y} f p idle g q idle' =
+    let d = drained l q in
+    let none : pending t x y ≡ [] = not-busy t x y idle' in
+    let last : later t l x y [] ≡ [] = d .1 ∙ g .ended idle in
+    sym
+    (sym (f .owed line a b sheet) ∙ run-owes p
+    ∙ ap (λ (z : List ℕ). w ++ z)
+    (g .owed ∙ d .0 ∙ ap (λ (z : List ℕ). w' ++ (z ++ later t l x y [])) none ∙ ap (λ (z : List ℕ). w' ++ z) last ∙ append-nil w'))

@@ -23,7 +23,8 @@ use Rattle.frame.specs.Puts.{puts, LinePut}
 use Rattle.frame.proofs.Puts.{take-puts, answer-length}
 use Rattle.frame.specs.declared.write.Answer.{Answer}
 use Rattle.sheet.specs.Machine.{shown, refusalText}
-use Rattle.sheet.specs.Owes.{modeOf, seenBy, routeLeft, isAsked, cutText, dueText, leftText, pending, later, isBusy, Given, GivenOn, CutGiven, DueGiven, RouteOut, AskedOut}
+use Rattle.sheet.specs.Owes.{modeOf, seenBy, routeLeft, isAsked, cutText, dueText, leftText, pending, later, isBusy, Given}
+use Rattle.sheet.specs.Parts.{GivenOn, CutGiven, DueGiven, RouteOut, AskedOut}
 use Rattle.sheet.specs.Steps.{isHeld}
 use Rattle.sheet.specs.declared.state.State.{State}
 use Rattle.sheet.proofs.Lines.{either}

@@ -12,7 +12,8 @@ use borrow.Author.Tests.{eq-eqb, ne-eqb, eqb-false, ltb-true, ltb-false}
 use Rattle.frame.specs.Frame.{Frame, bad, textFrame, isFed, frameOf}
 use Rattle.frame.proofs.Frames.{long-bad, fed-frame, fed-last, unfed-bad}
 use Rattle.sheet.specs.Lines.{lastLine, linesFrom, linesOf}
-use Rattle.sheet.specs.Owes.{lastFrame, framesFrom, StoredIn}
+use Rattle.sheet.specs.Owes.{lastFrame, framesFrom}
+use Rattle.sheet.specs.Parts.{StoredIn}
 
 pub either {ℓ} : {P : Type ℓ} (b : Bool) → (b ≡ true → P) → (b ≡ false → P) → P
 either true f g = f refl

@@ -36,7 +36,8 @@ use Rattle.sheet.specs.Route.{wireText, wiresText}
 use Rattle.sheet.specs.Planned.{planned, PlanTold}
 use Rattle.sheet.specs.Machine.{Mode, ready, inside, skipping, Reaction, shown, refusalText, routeText, lineText, opens, fillsBottom, fillsTop, react, noted, atEnd, machine, answers}
 use Rattle.sheet.specs.Steps.{hasLine, withLine, noOrder, noAnswer, quietBy, owingBy, skips, refusing, headed, heading, cutOff, complete, filling, isHeld, readyTo, skippingTo, bottomTo, BottomPut, topTo, TopPut}
-use Rattle.sheet.specs.Owes.{modeBy, modeOf, seenBy, framesFrom, lastFrame, routeLeft, isAsked, leftText, pending, later, owes, isBusy, Fresh, Reacted, TakenIn, Kept, Finished}
+use Rattle.sheet.specs.Owes.{modeBy, modeOf, seenBy, framesFrom, lastFrame, routeLeft, isAsked, leftText, pending, later, owes, isBusy, Fresh, Finished}
+use Rattle.sheet.specs.Parts.{Reacted, TakenIn, Kept}
 use Rattle.sheet.specs.declared.state.Phase.{Phase}
 use Rattle.sheet.specs.declared.state.Phase.the-variants.{Ready, Inside, Skipping}
 use Rattle.sheet.specs.declared.state.State.{State}

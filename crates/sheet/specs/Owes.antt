@@ -8,7 +8,7 @@ use mathlib.Core.Path.{_≡_}
 use mathlib.Core.List.{List, [], _∷_, _++_}
 use Prim.Native.Nat.{ℕ, _+_, _-_, _<_, _≤_}
 use lib.Dec.{eqb, ltb, leb}
-use lib.ListN.{length, getD, take, drop, set}
+use lib.ListN.{length, take, drop}
 use lib.IntN.{ℤ}
 use Rattle.wiring.specs.Wiring.{pad, topPad}
 use Rattle.wiring.specs.Drawing.{drawn}
@@ -19,7 +19,7 @@ use Rattle.jumper.specs.declared.refusal.Refusal.the-variants.{Sequence}
 use Rattle.frame.specs.Frame.{Frame, bad, textFrame}
 use Rattle.frame.specs.Written.{answerLine}
 use Rattle.sheet.specs.Route.{wireText, wiresText}
-use Rattle.sheet.specs.Machine.{Mode, ready, inside, skipping, refusalText, react, noted, machine, answers}
+use Rattle.sheet.specs.Machine.{Mode, ready, inside, skipping, refusalText, machine, answers}
 use Rattle.sheet.specs.Steps.{hasLine, isHeld}
 use Rattle.sheet.specs.declared.state.Phase.{Phase}
 use Rattle.sheet.specs.declared.state.Phase.the-variants.{Ready, Inside, Skipping}
@@ -107,64 +107,3 @@ pub record Finished (s : State) (line : List ℕ) (a b : List ℤ) (r : State) :
   pub owed : owes s line a b [] ≡ owes r line a b []
   pub ended : isBusy s ≡ false → later r line a b [] ≡ []
   pub busy : isBusy s ≡ true → r ≡ s
-
--- What the parts of the code promise each other.
-
--- a line's text f is taken in where nothing is to be written
-pub record Reacted (s : State) (a b : List ℤ) (f : Frame) (r : State) (a' b' : List ℤ) : Type 0 where
-  pub out : pending r a' b' ≡ react (seenBy s) (modeOf s a b) f .out
-  pub to : modeOf r a' b' ≡ react (seenBy s) (modeOf s a b) f .to
-  pub seen : (l : ℕ) → l < 64 → seenBy r l ≡ noted (seenBy s) f l
-  pub begun : r .at ≡ 0
-
--- a byte is stored at place `at` if it has room there
-pub record StoredIn (line : List ℕ) (at b at' : ℕ) (line' : List ℕ) : Type 0 where
-  pub room : at < length line → (at' ≡ at + 1) × (line' ≡ set line at b)
-  pub full : length line ≤ at → (at' ≡ at) × (line' ≡ line)
-
--- bytes of a piece from i on are kept as text, up to a line feed or the piece's end
-pub record Kept (line : List ℕ) (at : ℕ) (piece : List ℕ) (i at' i' : ℕ) (line' : List ℕ) : Type 0 where
-  pub frames : (rest : List ℕ) → framesFrom (take at line) (drop i piece ++ rest) ≡ framesFrom (take at' line') (drop i' piece ++ rest)
-  pub within : i' ≤ length piece
-  pub ahead : i ≤ i'
-  pub feed : i' < length piece → getD piece i' 0 ≡ 10
-
--- a piece is taken in as far as `used`, until something is to be written
-pub record TakenIn (s : State) (line : List ℕ) (a b : List ℤ) (piece : List ℕ) (r : State) (used : ℕ) (line' : List ℕ) (a' b' : List ℤ) : Type 0 where
-  pub owed : (rest : List ℕ) → owes s line a b (piece ++ rest) ≡ owes r line' a' b' (drop used piece ++ rest)
-  pub within : used ≤ length piece
-  pub far : isBusy r ≡ false → used ≡ length piece
-  pub some : isBusy s ≡ false → 0 < length piece → 0 < used
-
--- a part of what is still to write was written
-pub record GivenOn (s : State) (out : List ℕ) (from : ℕ) (r : State) (to : ℕ) (out' : List ℕ) : Type 0 where
-  pub gave : (a b : List ℤ) → take from out ++ pending s a b ≡ take to out' ++ pending r a b
-  pub same : (line : List ℕ) (a b : List ℤ) (rest : List ℕ) → later r line a b rest ≡ later s line a b rest
-
-pub record CutGiven (s : State) (out : List ℕ) (from : ℕ) (r : State) (to : ℕ) (out' : List ℕ) : Type 0 where
-  pub part : GivenOn s out from r to out'
-  pub far : r .cut ≡ true → length out < to + 35
-
-pub record DueGiven (s : State) (out : List ℕ) (from : ℕ) (r : State) (to : ℕ) (out' : List ℕ) : Type 0 where
-  pub part : GivenOn s out from r to out'
-  pub quiet : r .cut ≡ false
-  pub far : r .due ≡ true → length out < to + 35
-
--- the frames 21 of a route, and of one wire, written as far as they have room
-pub record RouteOut (l s : ℕ) (d : ℤ) (a b : List ℤ) (i t : ℕ) (out : List ℕ) (from : ℕ) (i' t' to : ℕ) (out' : List ℕ) : Type 0 where
-  pub gave : take from out ++ routeLeft l s d a b i t ≡ take to out' ++ routeLeft l s d a b i' t'
-  pub far : i' < length a → length out < to + 35
-
-pub record WireOut (l s : ℕ) (d : ℤ) (a b : List ℤ) (i t : ℕ) (out : List ℕ) (from : ℕ) (t' to : ℕ) (out' : List ℕ) : Type 0 where
-  pub gave : take from out ++ wireText l (drawn (length a) (pad a) (topPad b d)) i t (s - t) ≡ take to out' ++ wireText l (drawn (length a) (pad a) (topPad b d)) i t' (s - t')
-  pub far : t' < s → length out < to + 35
-
--- the same, of rows that may not be accepted: then there is nothing to write
-pub record AskedOut (l s : ℕ) (d : ℤ) (a b : List ℤ) (i t : ℕ) (out : List ℕ) (from : ℕ) (i' t' to : ℕ) (out' : List ℕ) : Type 0 where
-  pub gave : take from out ++ cond (isAsked a b s d) (routeLeft l s d a b i t) [] ≡ take to out' ++ cond (isAsked a b s d) (routeLeft l s d a b i' t') []
-  pub far : i' < length a → length out < to + 35
-
--- one track of a wire
-pub record TrackOut (text out : List ℕ) (from : ℕ) (done : Bool) (to : ℕ) (out' : List ℕ) : Type 0 where
-  pub wrote : done ≡ true → take to out' ≡ take from out ++ text
-  pub full : done ≡ false → (to ≡ from) × (out' ≡ out) × (length out < from + 35)

@@ -5,7 +5,7 @@ ghost use Prim.Native.Nat.{_+_, _≤_};
 ghost use lib.ListN.{length, take};
 ghost use Rattle.frame.specs.Frame.{textFrame, saidOf};
 ghost use Rattle.sheet.specs.Steps.{isHeld, readyTo, skippingTo, BottomPut, TopPut};
-ghost use Rattle.sheet.specs.Owes.{Reacted};
+ghost use Rattle.sheet.specs.Parts.{Reacted};
 use crate::plan::plan_first;
 use crate::state::Phase;
 use crate::state::State;
