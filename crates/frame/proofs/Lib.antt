@@ -1,4 +1,4 @@
--- What the floors above cite: Frames says what a good frame has, Lines how a line feed and a length decide, Puts what was stored, Back that what is written is read back.
+-- What the floors above cite: Frames says what a good frame has, Puts what was stored, Back that what is written is read back.
 mod Signed
 mod Scan
 pub mod Puts
