@@ -57,6 +57,9 @@ typedef struct {
     obrastyn_numbers answer;
 } obrastyn_line;
 
+/* One record answered by value: the record with its answer, all else as it was. */
+obrastyn_line obrastyn_answer(obrastyn_line line, const int32_t *a, size_t an, const int32_t *b, size_t bn);
+
 /* From target/staticlib/libform.a (`rt staticlib form`). 0, or 12 (LINE) for no such line or over 64 lines, and then nothing is written. */
 uint8_t answer_line(obrastyn_line *table, size_t lines, size_t k, const int32_t *a, size_t an, const int32_t *b, size_t bn);
 uint8_t answer_all(obrastyn_line *table, size_t lines, const int32_t *a, size_t an, const int32_t *b, size_t bn);

@@ -9,8 +9,10 @@ ghost use Rattle.fit.specs.Least.{leastNumbers, leastAnswer};
 ghost use Rattle.fit.specs.Offsets.{offsetsNumbers, offsetsAnswer};
 ghost use Rattle.best.specs.Best.{bestNumbers, bestAnswer, ladderBy, ladderOf};
 ghost use Rattle.route.specs.Draw.{wireRefusal, allRefusal, unlessRefused, wireDrawn, allDrawn};
+ghost use Rattle.form.specs.Line.{LineAnswer};
 ghost use Rattle.route.specs.Check.{routeChecked};
 use fit::stretch::Place;
+use form::line::Line;
 use jumper::refusal::Numbers;
 
 // The row check: refusals 1 to 5.
@@ -99,4 +101,12 @@ pub extern "C" fn obrastyn_check(a: &[i32], b: &[i32], s: usize, d: i32, table: 
     ensures { λ r. ⌜ r ≡ checkedNumbers (routeChecked (now (a .entry)) (now (b .entry)) s d (now (table .entry))) ⌝ }
 {
     route::checking::check_route(a, b, s, d, table).numbers()
+}
+
+// One record of an order form answered by value: LINE where its pads aren't in the pools, else what its wish is answered.
+#[no_mangle]
+pub extern "C" fn obrastyn_answer(line: Line, pool_a: &[i32], pool_b: &[i32]) -> Line
+    ensures { λ r. ⌜ LineAnswer line (now («pool_a» .entry)) (now («pool_b» .entry)) r ⌝ }
+{
+    form::line::answered(line, pool_a, pool_b)
 }

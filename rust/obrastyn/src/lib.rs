@@ -79,6 +79,7 @@ mod raw {
         pub fn obrastyn_draw_wire(a: *const i32, an: usize, b: *const i32, bn: usize, s: usize, d: i32, wire: usize, out: *mut i32, room: usize) -> Numbers;
         pub fn obrastyn_draw_all(a: *const i32, an: usize, b: *const i32, bn: usize, s: usize, d: i32, out: *mut i32, room: usize) -> Numbers;
         pub fn obrastyn_check(a: *const i32, an: usize, b: *const i32, bn: usize, s: usize, d: i32, table: *const i32, room: usize) -> Numbers;
+        pub fn obrastyn_answer(line: Line, a: *const i32, an: usize, b: *const i32, bn: usize) -> Line;
         // The two calls over a table of records, from the archive of crate `form`.
         pub fn answer_line(table: *mut Line, lines: usize, k: usize, a: *const i32, an: usize, b: *const i32, bn: usize) -> u8;
         pub fn answer_all(table: *mut Line, lines: usize, a: *const i32, an: usize, b: *const i32, bn: usize) -> u8;
@@ -131,6 +132,11 @@ pub fn draw_all(a: &[i32], b: &[i32], s: usize, d: i32, out: &mut [i32]) -> Numb
 /// A table of columns from anyone, checked: refusals 1 to 7, BUFFER, then BADWIRE with the wire and track of its first fault.
 pub fn check(a: &[i32], b: &[i32], s: usize, d: i32, table: &[i32]) -> Numbers {
     unsafe { raw::obrastyn_check(a.as_ptr(), a.len(), b.as_ptr(), b.len(), s, d, table.as_ptr(), table.len()) }
+}
+
+/// One record answered by value: the record with its answer, all else as it was.
+pub fn answer(line: Line, bottoms: &[i32], tops: &[i32]) -> Line {
+    unsafe { raw::obrastyn_answer(line, bottoms.as_ptr(), bottoms.len(), tops.as_ptr(), tops.len()) }
 }
 
 /// Answers line `k` of a form: its record takes its answer, a refusal included, and nothing else changes. Returns 0, or LINE

@@ -176,6 +176,9 @@ fn forms() {
         answer_form(&mut theirs, &a, &b);
         for (i, (x, y)) in ours.iter().zip(&theirs).enumerate() {
             assert_eq!(x.answer, same(y.answer), "round {round}, line {i}: {x:?}");
+            if lines <= 64 {
+                assert_eq!(obrastyn::answer(before[i], &a, &b), *x, "round {round}, line {i} by value");
+            }
         }
     }
 }
