@@ -1,16 +1,17 @@
 // Floor 8: the calls of the product for C and Rust. A slice is a pointer and a count of elements; every answer comes back as `Numbers` by value.
-// The promises are those of the calls below, in numbers; what the numbers mean of legal wirings is told there.
+// Each promises which numbers and which buffer, at every input (`answer`, `buffer`), and all that the call it stands for promises (`means`).
 ghost use mathlib.Core.Path.{_≡_};
 ghost use lib.ListN.{length};
-ghost use Rattle.jumper.specs.Rows.{checkedNumbers, checkRows};
-ghost use Rattle.fit.specs.Misfit.{fitOf};
+ghost use Rattle.jumper.specs.Rows.{checkedNumbers, checkRows, RowCheck};
+ghost use Rattle.fit.specs.Misfit.{fitOf, FitAnswer};
 ghost use Rattle.fit.specs.Stretch.{StretchPlace};
-ghost use Rattle.fit.specs.Least.{leastNumbers, leastAnswer};
-ghost use Rattle.fit.specs.Offsets.{offsetsNumbers, offsetsAnswer};
-ghost use Rattle.best.specs.Best.{bestNumbers, bestAnswer, ladderBy, ladderOf};
-ghost use Rattle.route.specs.Draw.{wireRefusal, allRefusal, unlessRefused, wireDrawn, allDrawn};
+ghost use Rattle.fit.specs.Least.{leastNumbers, leastAnswer, LeastAnswer};
+ghost use Rattle.fit.specs.Offsets.{offsetsNumbers, offsetsAnswer, OffsetsAnswer};
+ghost use Rattle.best.specs.Best.{bestNumbers, bestAnswer, ladderBy, ladderOf, BestAnswer};
+ghost use Rattle.route.specs.Draw.{wireRefusal, allRefusal, unlessRefused, wireDrawn, allDrawn, DrawWireAnswer, DrawAllAnswer};
+ghost use Rattle.route.specs.Check.{routeChecked, RouteCheck};
 ghost use Rattle.form.specs.Line.{LineAnswer};
-ghost use Rattle.route.specs.Check.{routeChecked};
+ghost use Rattle.catalog_c.specs.InNumbers.{InNumbers};
 use fit::stretch::Place;
 use form::line::Line;
 use jumper::refusal::Numbers;
@@ -18,7 +19,8 @@ use jumper::refusal::Numbers;
 // The row check: refusals 1 to 5.
 #[no_mangle]
 pub extern "C" fn obrastyn_rows(a: &[i32], b: &[i32]) -> Numbers
-    ensures { λ r. ⌜ r ≡ checkedNumbers (checkRows (now (a .entry)) (now (b .entry))) ⌝ }
+    ensures answer { λ r. ⌜ r ≡ checkedNumbers (checkRows (now (a .entry)) (now (b .entry))) ⌝ }
+    ensures means { λ r. ⌜ InNumbers checkedNumbers (RowCheck (now (a .entry)) (now (b .entry))) r ⌝ }
 {
     jumper::rows::check_rows(a, b).numbers()
 }
@@ -26,7 +28,8 @@ pub extern "C" fn obrastyn_rows(a: &[i32], b: &[i32]) -> Numbers
 // Whether a legal wiring exists at separation s and offset d: refusals 1 to 7 and 10.
 #[no_mangle]
 pub extern "C" fn obrastyn_fit(a: &[i32], b: &[i32], s: usize, d: i32) -> Numbers
-    ensures { λ r. ⌜ r ≡ checkedNumbers (fitOf (now (a .entry)) (now (b .entry)) s d) ⌝ }
+    ensures answer { λ r. ⌜ r ≡ checkedNumbers (fitOf (now (a .entry)) (now (b .entry)) s d) ⌝ }
+    ensures means { λ r. ⌜ InNumbers checkedNumbers (FitAnswer (now (a .entry)) (now (b .entry)) s d) r ⌝ }
 {
     fit::misfit::fit(a, b, s, d).numbers()
 }
@@ -34,7 +37,8 @@ pub extern "C" fn obrastyn_fit(a: &[i32], b: &[i32], s: usize, d: i32) -> Number
 // The least separation at offset d: refusals 1 to 5 and 7.
 #[no_mangle]
 pub extern "C" fn obrastyn_least(a: &[i32], b: &[i32], d: i32) -> Numbers
-    ensures { λ r. ⌜ r ≡ leastNumbers (leastAnswer (now (a .entry)) (now (b .entry)) d) ⌝ }
+    ensures answer { λ r. ⌜ r ≡ leastNumbers (leastAnswer (now (a .entry)) (now (b .entry)) d) ⌝ }
+    ensures means { λ r. ⌜ InNumbers leastNumbers (LeastAnswer (now (a .entry)) (now (b .entry)) d) r ⌝ }
 {
     fit::least::least_at(a, b, d).numbers()
 }
@@ -42,7 +46,8 @@ pub extern "C" fn obrastyn_least(a: &[i32], b: &[i32], d: i32) -> Numbers
 // The offsets that fit at separation s: refusals 1 to 6 and 11.
 #[no_mangle]
 pub extern "C" fn obrastyn_range(a: &[i32], b: &[i32], s: usize) -> Numbers
-    ensures { λ r. ⌜ r ≡ offsetsNumbers (offsetsAnswer (now (a .entry)) (now (b .entry)) s) ⌝ }
+    ensures answer { λ r. ⌜ r ≡ offsetsNumbers (offsetsAnswer (now (a .entry)) (now (b .entry)) s) ⌝ }
+    ensures means { λ r. ⌜ InNumbers offsetsNumbers (OffsetsAnswer (now (a .entry)) (now (b .entry)) s) r ⌝ }
 {
     fit::offsets::range_at(a, b, s).numbers()
 }
@@ -60,6 +65,7 @@ pub extern "C" fn obrastyn_stretch(a: &[i32], b: &[i32], s: usize, d: i32) -> Pl
 pub extern "C" fn obrastyn_best(a: &[i32], b: &[i32], ladder: &mut [usize]) -> Numbers
     ensures answer { λ r. ⌜ r ≡ bestNumbers (bestAnswer (now (a .entry)) (now (b .entry)) (now (ladder .entry))) ⌝ }
     ensures buffer { λ r. ⌜ now (ladder .exit) ≡ ladderBy (bestAnswer (now (a .entry)) (now (b .entry)) (now (ladder .entry))) (ladderOf (now (a .entry)) (now (b .entry))) (now (ladder .entry)) ⌝ }
+    ensures means { λ r. ⌜ InNumbers bestNumbers (BestAnswer (now (a .entry)) (now (b .entry)) (now (ladder .entry)) (now (ladder .exit))) r ⌝ }
 {
     best::plan::best_of(a, b, ladder).numbers()
 }
@@ -76,6 +82,7 @@ pub extern "C" fn obrastyn_draw_wire(
 ) -> Numbers
     ensures answer { λ r. ⌜ r ≡ checkedNumbers (wireRefusal (now (a .entry)) (now (b .entry)) s d wire (length (now (out .entry)))) ⌝ }
     ensures buffer { λ r. ⌜ now (out .exit) ≡ unlessRefused (wireRefusal (now (a .entry)) (now (b .entry)) s d wire (length (now (out .entry)))) (wireDrawn (now (a .entry)) (now (b .entry)) s d wire (now (out .entry))) (now (out .entry)) ⌝ }
+    ensures means { λ r. ⌜ InNumbers checkedNumbers (DrawWireAnswer (now (a .entry)) (now (b .entry)) s d wire (now (out .entry)) (now (out .exit))) r ⌝ }
 {
     route::drawing::draw_wire(a, b, s, d, wire, out).numbers()
 }
@@ -91,6 +98,7 @@ pub extern "C" fn obrastyn_draw_all(
 ) -> Numbers
     ensures answer { λ r. ⌜ r ≡ checkedNumbers (allRefusal (now (a .entry)) (now (b .entry)) s d (length (now (out .entry)))) ⌝ }
     ensures buffer { λ r. ⌜ now (out .exit) ≡ unlessRefused (allRefusal (now (a .entry)) (now (b .entry)) s d (length (now (out .entry)))) (allDrawn (now (a .entry)) (now (b .entry)) s d (now (out .entry))) (now (out .entry)) ⌝ }
+    ensures means { λ r. ⌜ InNumbers checkedNumbers (DrawAllAnswer (now (a .entry)) (now (b .entry)) s d (now (out .entry)) (now (out .exit))) r ⌝ }
 {
     route::drawing::draw_all(a, b, s, d, out).numbers()
 }
@@ -98,7 +106,8 @@ pub extern "C" fn obrastyn_draw_all(
 // A table from anyone, checked: refusals 1 to 7, 9 and 16.
 #[no_mangle]
 pub extern "C" fn obrastyn_check(a: &[i32], b: &[i32], s: usize, d: i32, table: &[i32]) -> Numbers
-    ensures { λ r. ⌜ r ≡ checkedNumbers (routeChecked (now (a .entry)) (now (b .entry)) s d (now (table .entry))) ⌝ }
+    ensures answer { λ r. ⌜ r ≡ checkedNumbers (routeChecked (now (a .entry)) (now (b .entry)) s d (now (table .entry))) ⌝ }
+    ensures means { λ r. ⌜ InNumbers checkedNumbers (RouteCheck (now (a .entry)) (now (b .entry)) s d (now (table .entry))) r ⌝ }
 {
     route::checking::check_route(a, b, s, d, table).numbers()
 }

@@ -13,7 +13,7 @@ same-length c = search needs
 
 returns : tie.Need-returns
 returns c =
-    let b = c .before .before .before .best-of .ensures in (rw (← b .answer) (c .numbers .ensures), rw (← b .answer) (b .buffer))
+    let b = c .before .before .before .best-of .ensures in (rw (← b .answer) (c .numbers .ensures), (rw (← b .answer) (b .buffer), record { answer = _; same = c .numbers .ensures; promise = b }))
 
 pub obrastyn-best-spec : {M : Type 1} → statement M
 obrastyn-best-spec = tie.close (tie.spec best-of-requires numbers-requires same-length returns)

@@ -14,7 +14,7 @@ returns : tie.Need-returns
 returns c =
     let s = c .before .before in
     let e = toZ-ofZ w32 (s .args .d) (s .fits .d) in
-    rw (← e, ← c .before .check-route .ensures .answer) (c .numbers .ensures)
+    let b = rw e at (c .before .check-route .ensures) in (rw (← b .answer) (c .numbers .ensures), record { answer = _; same = c .numbers .ensures; promise = b })
 
 pub obrastyn-check-spec : {M : Type 1} → statement M
 obrastyn-check-spec = tie.close (tie.spec check-route-requires numbers-requires returns)

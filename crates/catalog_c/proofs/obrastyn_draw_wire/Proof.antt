@@ -17,7 +17,7 @@ returns : tie.Need-returns
 returns c =
     let s = c .before .before .before .before in
     let e = toZ-ofZ w32 (s .args .d) (s .fits .d) in
-    let b = rw e at (c .before .before .draw-wire .ensures) in (rw (← b .answer) (c .numbers .ensures), rw (← b .answer) (b .buffer))
+    let b = rw e at (c .before .before .draw-wire .ensures) in (rw (← b .answer) (c .numbers .ensures), (rw (← b .answer) (b .buffer), record { answer = _; same = c .numbers .ensures; promise = b }))
 
 pub obrastyn-draw-wire-spec : {M : Type 1} → statement M
 obrastyn-draw-wire-spec =

@@ -12,7 +12,9 @@ numbers-requires c κs = search needs
 
 returns : tie.Need-returns
 returns c =
-    let s = c .before .before in rw (← toZ-ofZ w32 (s .args .d) (s .fits .d), ← c .before .fit .ensures .answer) (c .numbers .ensures)
+    let s = c .before .before in
+    let e = toZ-ofZ w32 (s .args .d) (s .fits .d) in
+    let b = rw e at (c .before .fit .ensures) in (rw (← b .answer) (c .numbers .ensures), record { answer = _; same = c .numbers .ensures; promise = b })
 
 pub obrastyn-fit-spec : {M : Type 1} → statement M
 obrastyn-fit-spec = tie.close (tie.spec fit-requires numbers-requires returns)

@@ -9,7 +9,8 @@ numbers-requires : tie.Need-numbers-requires
 numbers-requires c κs = search needs
 
 returns : tie.Need-returns
-returns c = rw (← c .before .range-at .ensures .answer) (c .numbers .ensures)
+returns c =
+    let b = c .before .range-at .ensures in (rw (← b .answer) (c .numbers .ensures), record { answer = _; same = c .numbers .ensures; promise = b })
 
 pub obrastyn-range-spec : {M : Type 1} → statement M
 obrastyn-range-spec = tie.close (tie.spec range-at-requires numbers-requires returns)

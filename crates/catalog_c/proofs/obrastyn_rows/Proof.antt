@@ -9,7 +9,8 @@ numbers-requires : tie.Need-numbers-requires
 numbers-requires c κs = search needs
 
 returns : tie.Need-returns
-returns c = rw (← c .before .check-rows .ensures .answer) (c .numbers .ensures)
+returns c =
+    let b = c .before .check-rows .ensures in (rw (← b .answer) (c .numbers .ensures), record { answer = _; same = c .numbers .ensures; promise = b })
 
 pub obrastyn-rows-spec : {M : Type 1} → statement M
 obrastyn-rows-spec = tie.close (tie.spec check-rows-requires numbers-requires returns)
