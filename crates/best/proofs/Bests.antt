@@ -19,7 +19,7 @@ use Rattle.wiring.proofs.Rule.{fits-above}
 use Rattle.wiring.proofs.Halving.{evens-steady, to-half, from-half}
 use Rattle.jumper.specs.Span.{rangeOf}
 use Rattle.jumper.proofs.Spans.{range-exactly, none-fits, half-fits}
-use Rattle.best.specs.Halving.{emptyAt, readAt, Taken, fromHalf, Halving, onePair, levelOver, halving, levels, readBetween, countUnder, countOf}
+use Rattle.best.specs.Halving.{emptyAt, readAt, Taken, fromHalf, Halving, onePair, levelOver, halving, levels, readBetween, countUnder, ladderCount}
 use Rattle.best.proofs.Levels.{one-pair, more-pairs, one-level, more-levels, by-halving, Past, cases}
 use Rattle.best.proofs.Agree.{Agree, evens-agree, half-agrees}
 
@@ -174,8 +174,8 @@ counted =
     (λ m x y l ih. rw (more-pairs m x y l) (more-counted m x y (halving (half m) (evens x) (evens y)) ih))
 
 -- "The count is therefore fixed by the ladder."
-pub count-fixed : (m : ℕ) (x y : ℕ → ℤ) → 1 ≤ m → halving m x y .count ≡ countOf (halving m x y .ladder)
-unfolding countOf
+pub count-fixed : (m : ℕ) (x y : ℕ → ℤ) → 1 ≤ m → halving m x y .count ≡ ladderCount (halving m x y .ladder)
+unfolding ladderCount
 count-fixed m x y h = let k = counted m x y h in rw (k .ladder) (sym (k .count))
 
 -- two numbers for each level

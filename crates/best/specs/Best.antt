@@ -19,7 +19,7 @@ use Rattle.jumper.specs.declared.refusal.Refusal.the-variants.{Buffer}
 use Rattle.jumper.specs.declared.rows.Checked.{Checked}
 use Rattle.jumper.specs.declared.rows.Checked.the-variants.{Accepted, Refused as RowsRefused}
 use Rattle.jumper.specs.declared.range.OffsetRange.{OffsetRange}
-use Rattle.best.specs.Halving.{Halving, halving, countOf}
+use Rattle.best.specs.Halving.{Halving, halving, maxReadAPair, ladderCount}
 use Rattle.best.specs.declared.plan.Planned.{Planned}
 use Rattle.best.specs.declared.plan.Best.{Best}
 use Rattle.best.specs.declared.plan.Best.the-variants.{Found, Refused}
@@ -77,6 +77,6 @@ pub record BestAnswer (a b : List ℤ) (before after : List ℕ) (r : Best) : Ty
   -- "the best separation is at most half the number of pairs" (003, lemma 2), so it is below their number
   pub within : bestNumbers r .refusal ≡ 0 → 2 * bestNumbers r .separation ≤ length a
   pub below : bestNumbers r .refusal ≡ 0 → bestNumbers r .separation < length a
-  -- "The count is therefore fixed by the ladder", and it is at most 12 for each pair
-  pub fixed : bestNumbers r .refusal ≡ 0 → bestNumbers r .count ≡ countOf (ladderOf a b)
-  pub cheap : bestNumbers r .refusal ≡ 0 → bestNumbers r .count ≤ 12 * length a
+  -- "The count is therefore fixed by the ladder", and at most 12 are read for each pair
+  pub fixed : bestNumbers r .refusal ≡ 0 → bestNumbers r .count ≡ ladderCount (ladderOf a b)
+  pub cheap : bestNumbers r .refusal ≡ 0 → bestNumbers r .count ≤ maxReadAPair * length a

@@ -75,6 +75,10 @@ levelsIn (suc f) m = cond (ltb 1 m) (levelsIn f (half m) + 1) 1
 abbrev pub levels : ℕ → ℕ
 levels m = levelsIn m m
 
+-- "at most 12n"
+abbrev pub maxReadAPair : ℕ
+maxReadAPair = 12
+
 -- "The count is therefore fixed by the ladder." What the trials of a level of m pairs read, by its best b and its even half's best h:
 -- 2h-1 was tried if h >= 1, and 2h unless 2h-1 was taken
 abbrev pub readBetween : (m b h : ℕ) → ℕ
@@ -86,7 +90,7 @@ countUnder m b [] = 0
 countUnder m b (k ∷ []) = 0
 countUnder m b (k ∷ h ∷ rest) = countUnder k h rest + readBetween m b h
 
-unfoldable pub countOf : List ℕ → ℕ
-countOf [] = 0
-countOf (m ∷ []) = 0
-countOf (m ∷ b ∷ rest) = countUnder m b rest
+unfoldable pub ladderCount : List ℕ → ℕ
+ladderCount [] = 0
+ladderCount (m ∷ []) = 0
+ladderCount (m ∷ b ∷ rest) = countUnder m b rest

@@ -80,6 +80,13 @@ pub record Keeps (m : ℕ) (x y : List ℤ) (l : Level) : Type 0 where
   pub inside : l .best < m
   pub kept : l .range .low ≤ℤ l .range .high → l .range ≡ rangeOf m (pad x) (pad y) (l .best)
 
+-- how many pairs a small room and a middle one take
+abbrev pub smallRoom : ℕ
+smallRoom = 64
+
+abbrev pub middleRoom : ℕ
+middleRoom = 512
+
 -- room in which m pairs can be halved: in x and y for the pairs and behind them every second half, in hx and hy for the other halves
 pub record Room (m : ℕ) (x y hx hy : List ℤ) : Type 0 where
   pub bottom : 2 * m ≤ length x + 1

@@ -36,7 +36,7 @@ fn try_even(x: &[i32], y: &[i32], m: usize, h: usize, read: usize) -> Level
     let tried = try_at(x, y, m, s);
     let range = tried.range;
     let count = read + tried.count;
-    if range.high < range.low {
+    if range.is_empty() {
         let best = s + 1;
         return Level { best, range, count };
     }
@@ -59,7 +59,7 @@ pub(crate) fn choose(x: &[i32], y: &[i32], m: usize, h: usize, read: usize) -> L
     let tried = try_at(x, y, m, s);
     let range = tried.range;
     let count = read + tried.count;
-    if range.high < range.low {
+    if range.is_empty() {
         return try_even(x, y, m, h, count);
     }
     Level {

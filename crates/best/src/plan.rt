@@ -3,14 +3,16 @@ ghost use mathlib.Core.Path.{_≡_};
 ghost use Prim.Native.Nat.{_≤_};
 ghost use lib.ListN.{length};
 ghost use Rattle.wiring.specs.Wiring.{pad};
+ghost use Rattle.jumper.specs.Limits.{maxPairs};
 ghost use Rattle.jumper.specs.Span.{rangeOf};
 ghost use Rattle.best.specs.Best.{bestNumbers, BestAnswer};
-ghost use Rattle.best.specs.Work.{Plannable, IsPlanned, Room, Keeps};
+ghost use Rattle.best.specs.Work.{smallRoom, middleRoom, Plannable, IsPlanned, Room, Keeps};
 use crate::climb::climb;
 use crate::level::Level;
 use crate::level::count_levels;
 use crate::rows::lower;
 use crate::trial::try_at;
+use jumper::limits::MAX_PAIRS;
 use jumper::range::OffsetRange;
 use jumper::refusal::Numbers;
 use jumper::refusal::Refusal;
@@ -70,51 +72,56 @@ pub fn best_of(a: &[i32], b: &[i32], ladder: &mut [usize]) -> Best
     }
 }
 
+// How many pairs a small room and a middle one take; a large one takes MAX_PAIRS. Which room is taken is a matter of speed alone.
+const SMALL: usize = 64;
+
+const MIDDLE: usize = 512;
+
 // Arrays are cleared where they are made, so few pairs are halved in small ones.
 fn halve(a: &[i32], b: &[i32], ladder: &mut [usize]) -> Planned
     requires { ⌜ Plannable (now a) (now b) (now ladder) ⌝ }
     ensures { λ r. ⌜ IsPlanned (now (a .entry)) (now (b .entry)) (now (ladder .entry)) (now (ladder .exit)) r ⌝ }
 {
     let n = a.len();
-    if n <= 64 {
-        return in_room_64(a, b, ladder);
+    if n <= SMALL {
+        return in_small_room(a, b, ladder);
     }
-    if n <= 512 {
-        return in_room_512(a, b, ladder);
+    if n <= MIDDLE {
+        return in_middle_room(a, b, ladder);
     }
-    in_room_2048(a, b, ladder)
+    in_large_room(a, b, ladder)
 }
 
-fn in_room_64(a: &[i32], b: &[i32], ladder: &mut [usize]) -> Planned
-    requires { ⌜ Plannable (now a) (now b) (now ladder) × (length (now a) ≤ 64) ⌝ }
+fn in_small_room(a: &[i32], b: &[i32], ladder: &mut [usize]) -> Planned
+    requires { ⌜ Plannable (now a) (now b) (now ladder) × (length (now a) ≤ smallRoom) ⌝ }
     ensures { λ r. ⌜ IsPlanned (now (a .entry)) (now (b .entry)) (now (ladder .entry)) (now (ladder .exit)) r ⌝ }
 {
-    let mut x = [0i32; 128];
-    let mut y = [0i32; 128];
-    let mut hx = [0i32; 64];
-    let mut hy = [0i32; 64];
+    let mut x = [0i32; 2 * SMALL];
+    let mut y = [0i32; 2 * SMALL];
+    let mut hx = [0i32; SMALL];
+    let mut hy = [0i32; SMALL];
     halve_in(a, b, &mut x, &mut y, &mut hx, &mut hy, ladder)
 }
 
-fn in_room_512(a: &[i32], b: &[i32], ladder: &mut [usize]) -> Planned
-    requires { ⌜ Plannable (now a) (now b) (now ladder) × (length (now a) ≤ 512) ⌝ }
+fn in_middle_room(a: &[i32], b: &[i32], ladder: &mut [usize]) -> Planned
+    requires { ⌜ Plannable (now a) (now b) (now ladder) × (length (now a) ≤ middleRoom) ⌝ }
     ensures { λ r. ⌜ IsPlanned (now (a .entry)) (now (b .entry)) (now (ladder .entry)) (now (ladder .exit)) r ⌝ }
 {
-    let mut x = [0i32; 1024];
-    let mut y = [0i32; 1024];
-    let mut hx = [0i32; 512];
-    let mut hy = [0i32; 512];
+    let mut x = [0i32; 2 * MIDDLE];
+    let mut y = [0i32; 2 * MIDDLE];
+    let mut hx = [0i32; MIDDLE];
+    let mut hy = [0i32; MIDDLE];
     halve_in(a, b, &mut x, &mut y, &mut hx, &mut hy, ladder)
 }
 
-fn in_room_2048(a: &[i32], b: &[i32], ladder: &mut [usize]) -> Planned
-    requires { ⌜ Plannable (now a) (now b) (now ladder) × (length (now a) ≤ 2048) ⌝ }
+fn in_large_room(a: &[i32], b: &[i32], ladder: &mut [usize]) -> Planned
+    requires { ⌜ Plannable (now a) (now b) (now ladder) × (length (now a) ≤ maxPairs) ⌝ }
     ensures { λ r. ⌜ IsPlanned (now (a .entry)) (now (b .entry)) (now (ladder .entry)) (now (ladder .exit)) r ⌝ }
 {
-    let mut x = [0i32; 4096];
-    let mut y = [0i32; 4096];
-    let mut hx = [0i32; 2048];
-    let mut hy = [0i32; 2048];
+    let mut x = [0i32; 2 * MAX_PAIRS];
+    let mut y = [0i32; 2 * MAX_PAIRS];
+    let mut hx = [0i32; MAX_PAIRS];
+    let mut hy = [0i32; MAX_PAIRS];
     halve_in(a, b, &mut x, &mut y, &mut hx, &mut hy, ladder)
 }
 
@@ -150,7 +157,7 @@ fn kept_or_read(x: &[i32], y: &[i32], m: usize, level: Level) -> OffsetRange
 {
     let range = level.range;
     let s = level.best;
-    if range.high < range.low {
+    if range.is_empty() {
         let tried = try_at(x, y, m, s);
         let read = tried.range;
         return read;

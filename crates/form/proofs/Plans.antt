@@ -7,15 +7,14 @@ use native.Mathlib.Decide.{decLt}
 use native.Mathlib.Omega.{arith}
 use lib.Dec.{ltb}
 use lib.ListN.{length, replicate}
-use lib.IntN.{ℤ, pos}
-use lib.Signed.{_≤ℤ_, ltZ}
-use Rattle.whole.proofs.Arith.{up, down, arithℤ, dif, sum}
-use Rattle.wiring.specs.Wiring.{HasWiring, pad}
+use lib.IntN.{ℤ}
+use lib.Signed.{ltZ}
+use Rattle.whole.proofs.Arith.{up, down, arithℤ}
+use Rattle.wiring.specs.Wiring.{HasWiring}
 use Rattle.wiring.specs.Fit.{leanOf, half}
-use Rattle.wiring.proofs.Rule.{spread}
-use Rattle.jumper.specs.Limits.{lastColumn, AcceptedOffset}
+use Rattle.jumper.specs.Limits.{maxLadder, AcceptedOffset}
 use Rattle.jumper.specs.Refusals.{refusalNumbers}
-use Rattle.jumper.specs.Rows.{AcceptedRow, AcceptedRows, checkRows}
+use Rattle.jumper.specs.Rows.{AcceptedRows, checkRows}
 use Rattle.jumper.specs.Asked.{checkOffset, AcceptedTracks}
 use Rattle.jumper.specs.Span.{rangeOf}
 use Rattle.jumper.specs.declared.refusal.Refusal.{Refusal}
@@ -23,6 +22,7 @@ use Rattle.jumper.specs.declared.range.OffsetRange.{OffsetRange}
 use Rattle.jumper.specs.declared.rows.Checked.{Checked}
 use Rattle.jumper.specs.declared.rows.Checked.the-variants.{Accepted, Refused}
 use Rattle.jumper.proofs.Accepted.{numbered}
+use Rattle.jumper.proofs.Wired.{wired-accepted}
 use Rattle.jumper.proofs.Checks.{Early, tracks-accepted, early-shift, early-rows}
 use Rattle.fit.specs.Misfit.{misfitOf, FitAnswer}
 use Rattle.fit.specs.Least.{leastNumbers, leastOf, shown, unlessRefused, leastAnswer, LeastAnswer}
@@ -33,7 +33,6 @@ use Rattle.fit.specs.declared.least.Least.{Least}
 use Rattle.fit.specs.declared.least.Least.the-variants.{Straight, Tracks, Refused as NoLeast}
 use Rattle.fit.specs.declared.offsets.Offsets.{Offsets}
 use Rattle.fit.specs.declared.offsets.Offsets.the-variants.{Range as Offered, Refused as NoRange}
-use Rattle.fit.proofs.Misfits.{wiring-exactly}
 use Rattle.fit.proofs.Spans.{past-all, empty-range, some-range}
 use Rattle.best.specs.Halving.{levels}
 use Rattle.best.specs.Best.{bestNumbers, bestAnswer, ladderOf, plannedOf, roomOr, BestAnswer}
@@ -45,25 +44,6 @@ use Rattle.best.proofs.Bests.{ladder-length}
 use Rattle.form.specs.Plan.{fitPlan, leastPlan, rangePlan, PlanAnswer}
 use Rattle.form.proofs.Known.{known-fit, known-least, known-range, known-best}
 use Rattle.form.specs.declared.wish.Wish.the-variants.{Fit, Least as Leastwise, Range, Best as Bestwise}
-
--- an accepted row leans from 0 to the last column
-lean-low : {a : List ℤ} → AcceptedRow a → (k : ℕ) → k < length a → pos 0 ≤ℤ leanOf a k
-lean-low {a} h k l = omega (arithℤ, dif (pad a k) (pos k), sum (pad a 0) (pos k), spread (h .rising) k 0 k (omega arith) l, h .columns 0 (omega arith) .low)
-
-lean-high : {a : List ℤ} → AcceptedRow a → (k : ℕ) → k < length a → leanOf a k ≤ℤ lastColumn
-lean-high {a} h k l = omega (arithℤ, dif (pad a k) (pos k), h .columns k l .high)
-
--- below the number of pairs, every whole-number offset at which a legal wiring exists is an accepted one
-pub wired-accepted : {a b : List ℤ} → AcceptedRows a b → (s : ℕ) (d : ℤ) → s < length a → HasWiring a b s d → AcceptedOffset d
-wired-accepted {a} {b} h s d l w =
-    let f = wiring-exactly h s d .0 w in
-    let x = leanOf a in
-    let y = leanOf b in
-    let e = h .equal in
-    record {
-      low = omega (arithℤ, f .low 0 (omega arith), dif (x 0) (y (0 + s)), lean-low (h .bottom) 0 (omega arith), lean-high (h .top) (0 + s) (omega arith));
-      high = omega (arithℤ, f .high 0 (omega arith), dif (x (0 + s)) (y 0), lean-high (h .bottom) (0 + s) (omega arith), lean-low (h .top) 0 (omega arith));
-    }
 
 -- a least separation there always is: its refusals are those of the checks
 least-never : (a b : List ℤ) (d : ℤ) (r : Refusal) → NoLeast r ≡ leastAnswer a b d → refusalNumbers r .refusal ≡ 10 → ⊥
@@ -114,7 +94,7 @@ levels-few (suc k) m l h = go (decLt 1 m) (levels-few k (half m))
     go (yes g) less = rw (more-levels m g) (omega (arith, less (omega arith) (omega arith)))
     go (no g) less = let e : m ≡ 1 = omega arith in rw (e, one-level) (omega arith)
 
-ladder-room : (a b : List ℤ) → AcceptedRows a b → length (ladderOf a b) ≤ 24
+ladder-room : (a b : List ℤ) → AcceptedRows a b → length (ladderOf a b) ≤ maxLadder
 ladder-room a b h = omega (arith, ladder-length (length a) (leanOf a) (leanOf b) (h .some), levels-few 11 (length a) (h .some) (h .few))
 
 module _ (a b : List ℤ) where
@@ -221,7 +201,7 @@ module _ (a b : List ℤ) where
       accepted (yes l) = wired-accepted (k .rows) s (r .low) l fits
       accepted (no l) = let e = h .every refl (omega arith) .0 in rw (ap (λ (o : OffsetRange). o .low) e) (record { low = omega arithℤ; high = omega arithℤ })
 
-  pub best-plan : (before after : List ℕ) (q : Best) → before ≡ replicate 24 0 → BestAnswer a b before after q → PlanAnswer Bestwise a b (bestNumbers q)
+  pub best-plan : (before after : List ℕ) (q : Best) → before ≡ replicate maxLadder 0 → BestAnswer a b before after q → PlanAnswer Bestwise a b (bestNumbers q)
   best-plan before after (NoBest r) e h =
       let k = rw (← h .answer) at (known-best a b before) in
       record {

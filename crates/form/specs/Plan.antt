@@ -7,6 +7,7 @@ use lib.ListN.{length, replicate}
 use lib.IntN.{ℤ}
 use lib.Signed.{_≤ℤ_}
 use Rattle.wiring.specs.Wiring.{HasWiring}
+use Rattle.jumper.specs.Limits.{maxLadder}
 use Rattle.jumper.specs.Refusals.{sideNumber, refusalNumbers}
 use Rattle.jumper.specs.Rows.{AcceptedRows}
 use Rattle.jumper.specs.Asked.{AcceptedTracks, AcceptedShift, Asked}
@@ -21,7 +22,7 @@ use Rattle.fit.specs.declared.least.Least.{Least}
 use Rattle.fit.specs.declared.least.Least.the-variants.{Straight, Tracks, Refused as NoLeast}
 use Rattle.fit.specs.declared.offsets.Offsets.{Offsets}
 use Rattle.fit.specs.declared.offsets.Offsets.the-variants.{Range as Offered, Refused as NoRange}
-use Rattle.best.specs.Halving.{countOf}
+use Rattle.best.specs.Halving.{maxReadAPair, ladderCount}
 use Rattle.best.specs.Best.{bestNumbers, bestAnswer, ladderOf}
 use Rattle.form.specs.declared.wish.Wish.{Wish}
 use Rattle.form.specs.declared.wish.Wish.the-variants.{Fit, Least as Leastwise, Range, Best}
@@ -45,9 +46,9 @@ abbrev pub rangePlan : ℕ → Offsets → Numbers
 rangePlan s (Offered r) = plannedWith s (r .low) (r .high) 0 0 0
 rangePlan s (NoRange r) = refusalNumbers r
 
--- the best call with a ladder of 24 places: 12 levels, as many as 2,048 pairs have
+-- the best call, with room for the longest ladder
 abbrev pub bestPlan : (a b : List ℤ) → Numbers
-bestPlan a b = bestNumbers (bestAnswer a b (replicate 24 0))
+bestPlan a b = bestNumbers (bestAnswer a b (replicate maxLadder 0))
 
 abbrev pub planOf : Wish → (a b : List ℤ) → Numbers
 planOf (Fit s d) a b = fitPlan s d (fitOf a b s d)
@@ -92,8 +93,8 @@ pub record BestMeans (a b : List ℤ) (r : Numbers) : Type 0 where
   pub exactly : (d : ℤ) → HasWiring a b (r .separation) d ↔ Within d (rangeNamed r)
   pub none : (t : ℕ) → t < r .separation → (d : ℤ) → HasWiring a b t d → ⊥
   pub within : 2 * r .separation ≤ length a
-  pub fixed : r .count ≡ countOf (ladderOf a b)
-  pub cheap : r .count ≤ 12 * length a
+  pub fixed : r .count ≡ ladderCount (ladderOf a b)
+  pub cheap : r .count ≤ maxReadAPair * length a
 
 abbrev pub Means : Wish → (a b : List ℤ) → Numbers → Type 0
 Means (Fit s d) a b r = FitMeans s d a b r

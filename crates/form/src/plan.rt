@@ -10,6 +10,7 @@ use fit::least::least_at;
 use fit::misfit::fit;
 use fit::offsets::Offsets;
 use fit::offsets::range_at;
+use jumper::limits::MAX_LADDER;
 use jumper::refusal::Numbers;
 use jumper::rows::Checked;
 
@@ -64,11 +65,11 @@ fn plan_range(a: &[i32], b: &[i32], s: usize) -> Numbers
     }
 }
 
-// The ladder isn't asked for here: it goes into a buffer of this call's own, which has room for the most levels there can be.
+// The ladder isn't asked for here: it goes into a buffer of this call's own, which has room for the longest.
 fn plan_best(a: &[i32], b: &[i32]) -> Numbers
     ensures { λ r. ⌜ PlanAnswer Bestwise (now (a .entry)) (now (b .entry)) r ⌝ }
 {
-    let mut ladder = [0usize; 24];
+    let mut ladder = [0usize; MAX_LADDER];
     match best_of(a, b, &mut ladder) {
         Best::Found(p) => {
             let range = p.range;

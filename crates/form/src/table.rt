@@ -4,9 +4,7 @@ ghost use Rattle.form.specs.Table.{OneAnswered, AllAnswered, RowsAnswere
 use crate::line::Line;
 use crate::line::answered;
 use jumper::limits::MAX_LINES;
-
-// The number of Refusal::Line.
-const LINE: u8 = 12;
+use jumper::refusal::LINE;
 
 // Answers line k. LINE, and the table as it was, where k is no line or the table is too long.
 #[no_mangle]
@@ -42,7 +40,7 @@ pub extern "C" fn answer_all(table: &mut [Line], pool_a: &[i32], pool_b: &[i32])
 }
 
 // By value: the rows are answered in a local array, which is lent to `answer_all`.
-pub fn answer_rows(rows: [Line; 64], pool_a: &[i32], pool_b: &[i32]) -> [Line; 64]
+pub fn answer_rows(rows: [Line; MAX_LINES], pool_a: &[i32], pool_b: &[i32]) -> [Line; MAX_LINES]
     ensures { λ r. ⌜ RowsAnswered rows (now («pool_a» .entry)) (now («pool_b» .entry)) r ⌝ }
 {
     let mut t = rows;

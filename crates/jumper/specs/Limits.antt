@@ -29,6 +29,10 @@ highestOffset = pos 65535
 abbrev pub maxLines : ℕ
 maxLines = 64
 
+-- the places of the longest ladder: 2,048 pairs have 12 levels, "for each level .. two numbers"
+abbrev pub maxLadder : ℕ
+maxLadder = 24
+
 pub record AcceptedColumn (x : ℤ) : Type 0 where
   pub low : firstColumn ≤ℤ x
   pub high : x ≤ℤ lastColumn

@@ -9,3 +9,6 @@ pub const LAST_COLUMN: i32 = 65535;
 pub const MAX_TRACKS: usize = 2048;
 
 pub const MAX_LINES: usize = 64;
+
+// The ladder of MAX_PAIRS pairs: 12 levels, two places each.
+pub const MAX_LADDER: usize = 24;

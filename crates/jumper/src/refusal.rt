@@ -73,6 +73,9 @@ pub fn carrying(refusal: u8, place: usize, second: usize, pair: usize, side: u8)
     }
 }
 
+// The number of Refusal::Line, for calls whose result is a refusal's number alone.
+pub const LINE: u8 = 12;
+
 impl Refusal {
     pub fn numbers(self) -> Numbers
         ensures { λ r. ⌜ r ≡ refusalNumbers self ⌝ }
@@ -89,7 +92,7 @@ impl Refusal {
             Refusal::Buffer => carrying(9, 0, 0, 0, 0),
             Refusal::NoFit(pair, side) => carrying(10, 0, 0, pair, side.number()),
             Refusal::NoOffset(low, high) => carrying(11, low, high, 0, 0),
-            Refusal::Line => carrying(12, 0, 0, 0, 0),
+            Refusal::Line => carrying(LINE, 0, 0, 0, 0),
             Refusal::Frame => carrying(13, 0, 0, 0, 0),
             Refusal::Sequence => carrying(14, 0, 0, 0, 0),
             Refusal::Twice => carrying(15, 0, 0, 0, 0),

@@ -6,10 +6,8 @@ use native.Mathlib.Omega.{arith}
 use borrow.Author.Needs.{needs}
 use lib.ListN.{length}
 use lib.Signed.{ltZ}
-use mir.Facts.{toZ-ofZ}
-use mir.Syntax.{w32}
-use mir.Val.{SFits}
 use Rattle.wiring.specs.Wiring.{pad}
+use Rattle.jumper.proofs.Ranges.{empty-test}
 use Rattle.best.proofs.Levels.{from-none, from-past}
 use Rattle.best.proofs.Choices.{open-odd, past-odd, trial-few}
 use Rattle.best.proofs.level.choose.Statement.{statement}
@@ -38,9 +36,12 @@ add-count c =
     let s = k .before .before in
     omega (arith, trial-few (s .args .m) (s .args .x .now) (s .args .y .now) (2 * s .args .h - 1) (k .try-at .result) (k .try-at .ensures), s .pre .cheap, s .pre .front .rows .few)
 
+is-empty-requires : tie.Need-is-empty-requires
+is-empty-requires c κs = search needs
+
 try-even-requires-2 : tie.Need-try-even-requires-2
 try-even-requires-2 c κs =
-    let k = c .before .before .before .before .before in
+    let k = c .before .before .before .before in
     let s = k .before .before in
     let p = s .pre in
     record { front = p .front; more = p .more; within = p .within; cheap = omega (arith, trial-few (s .args .m) (s .args .x .now) (s .args .y .now) (2 * s .args .h - 1) (k .try-at .result) (k .try-at .ensures), p .cheap, p .front .rows .few) }
@@ -48,21 +49,17 @@ try-even-requires-2 c κs =
 returns-2 : tie.Need-returns-2
 returns-2 c =
     let j = c .before in
-    let k = j .before .before .before .before .before in
+    let k = j .before .before .before .before in
     let r = k .try-at .result in
     let a = k .before .before .args in
-    let l : SFits w32 (r .range .low) = search needs in
-    let h : SFits w32 (r .range .high) = search needs in
-    past-odd (a .m) (a .x .now) (a .y .now) (a .h) (a .read) r _ (pos-of-ne-zero (k .before .if1 .left)) (k .try-at .ensures) (simp (toZ-ofZ l, toZ-ofZ h) at (j .if2 .taken)) (c .try-even2 .ensures)
+    past-odd (a .m) (a .x .now) (a .y .now) (a .h) (a .read) r _ (pos-of-ne-zero (k .before .if1 .left)) (k .try-at .ensures) (sym (empty-test (r .range) _ (j .before .is-empty .ensures)) ∙ j .if2 .taken) (c .try-even2 .ensures)
 
 returns-3 : tie.Need-returns-3
 returns-3 c =
-    let k = c .before .before .before .before .before in
+    let k = c .before .before .before .before in
     let r = k .try-at .result in
     let a = k .before .before .args in
-    let l : SFits w32 (r .range .low) = search needs in
-    let h : SFits w32 (r .range .high) = search needs in
-    open-odd (a .m) (a .x .now) (a .y .now) (a .h) (a .read) r (pos-of-ne-zero (k .before .if1 .left)) (k .try-at .ensures) (simp (toZ-ofZ l, toZ-ofZ h) at (c .if2 .left))
+    open-odd (a .m) (a .x .now) (a .y .now) (a .h) (a .read) r (pos-of-ne-zero (k .before .if1 .left)) (k .try-at .ensures) (sym (empty-test (r .range) _ (c .before .is-empty .ensures)) ∙ c .if2 .left)
 
 pub choose-spec : {M : Type 1} → statement M
 choose-spec =
@@ -74,6 +71,7 @@ choose-spec =
     sub-s
     try-at-requires
     add-count
+    is-empty-requires
     try-even-requires-2
     returns-2
     returns-3)

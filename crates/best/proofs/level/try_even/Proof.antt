@@ -1,9 +1,8 @@
+use mathlib.Core.Path.{sym, _∙_}
 use Prim.Native.Nat.{_*_}
 use native.Mathlib.Omega.{arith}
 use borrow.Author.Needs.{needs}
-use mir.Facts.{toZ-ofZ}
-use mir.Syntax.{w32}
-use mir.Val.{SFits}
+use Rattle.jumper.proofs.Ranges.{empty-test}
 use Rattle.best.proofs.Choices.{empty-even, open-even, trial-few}
 use Rattle.best.proofs.level.try_even.Statement.{statement}
 use Rattle.best.proofs.level.try_even.Tie as tie
@@ -19,26 +18,25 @@ add-count c =
     let k = c .before .before .before in
     omega (arith, trial-few (k .args .m) (k .args .x .now) (k .args .y .now) (2 * k .args .h) (c .before .before .try-at .result) (c .before .before .try-at .ensures), k .pre .cheap, k .pre .front .rows .few)
 
+is-empty-requires : tie.Need-is-empty-requires
+is-empty-requires c κs = search needs
+
 add-best : tie.Need-add-best
 add-best c = search needs
 
 returns : tie.Need-returns
 returns c =
-    let k = c .before .before .before .before .before in
+    let k = c .before .before .before .before in
     let r = k .try-at .result in
     let a = k .before .args in
-    let l : SFits w32 (r .range .low) = search needs in
-    let h : SFits w32 (r .range .high) = search needs in
-    empty-even (a .m) (a .x .now) (a .y .now) (a .h) (a .read) r (k .try-at .ensures) (simp (toZ-ofZ l, toZ-ofZ h) at (c .if1 .taken))
+    empty-even (a .m) (a .x .now) (a .y .now) (a .h) (a .read) r (k .try-at .ensures) (sym (empty-test (r .range) _ (c .before .is-empty .ensures)) ∙ c .if1 .taken)
 
 returns-2 : tie.Need-returns-2
 returns-2 c =
-    let k = c .before .before .before .before .before in
+    let k = c .before .before .before .before in
     let r = k .try-at .result in
     let a = k .before .args in
-    let l : SFits w32 (r .range .low) = search needs in
-    let h : SFits w32 (r .range .high) = search needs in
-    open-even (a .m) (a .x .now) (a .y .now) (a .h) (a .read) r (k .try-at .ensures) (simp (toZ-ofZ l, toZ-ofZ h) at (c .if1 .left))
+    open-even (a .m) (a .x .now) (a .y .now) (a .h) (a .read) r (k .try-at .ensures) (sym (empty-test (r .range) _ (c .before .is-empty .ensures)) ∙ c .if1 .left)
 
 pub try-even-spec : {M : Type 1} → statement M
-try-even-spec = tie.close (tie.spec mul-s try-at-requires add-count add-best returns returns-2)
+try-even-spec = tie.close (tie.spec mul-s try-at-requires add-count is-empty-requires add-best returns returns-2)

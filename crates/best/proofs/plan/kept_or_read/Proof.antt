@@ -1,10 +1,12 @@
+use mathlib.Core.Path.{sym, _∙_}
 use borrow.Author.Needs.{needs}
-use mir.Facts.{toZ-ofZ}
-use mir.Syntax.{w32}
-use mir.Val.{SFits}
+use Rattle.jumper.proofs.Ranges.{empty-test}
 use Rattle.best.proofs.Choices.{read-range, kept-range}
 use Rattle.best.proofs.plan.kept_or_read.Statement.{statement}
 use Rattle.best.proofs.plan.kept_or_read.Tie as tie
+
+is-empty-requires : tie.Need-is-empty-requires
+is-empty-requires c κs = search needs
 
 try-at-requires : tie.Need-try-at-requires
 try-at-requires c κs = search needs
@@ -12,16 +14,14 @@ try-at-requires c κs = search needs
 returns : tie.Need-returns
 returns c =
     let k = c .before in
-    let a = k .before .before .before .before .before .args in
+    let a = k .before .before .before .before .args in
     read-range (a .m) (a .x .now) (a .y .now) (a .level .best) (k .try-at .result) (k .try-at .ensures)
 
 returns-2 : tie.Need-returns-2
 returns-2 c =
-    let k = c .before .before .before .before in
+    let k = c .before .before .before in
     let a = k .args in
-    let l : SFits w32 (a .level .range .low) = search needs in
-    let h : SFits w32 (a .level .range .high) = search needs in
-    kept-range (a .m) (a .x .now) (a .y .now) (a .level) (k .pre) (simp (toZ-ofZ l, toZ-ofZ h) at (c .if1 .left))
+    kept-range (a .m) (a .x .now) (a .y .now) (a .level) (k .pre) (sym (empty-test (a .level .range) _ (c .before .is-empty .ensures)) ∙ c .if1 .left)
 
 pub kept-or-read-spec : {M : Type 1} → statement M
-kept-or-read-spec = tie.close (tie.spec try-at-requires returns returns-2)
+kept-or-read-spec = tie.close (tie.spec is-empty-requires try-at-requires returns returns-2)

@@ -1,7 +1,7 @@
 use native.Mathlib.Omega.{arith}
 use borrow.Author.Needs.{needs}
-use Rattle.best.proofs.plan.in_room_2048.Statement.{statement}
-use Rattle.best.proofs.plan.in_room_2048.Tie as tie
+use Rattle.best.proofs.plan.in_large_room.Statement.{statement}
+use Rattle.best.proofs.plan.in_large_room.Tie as tie
 
 slice-aggregate-halve-in : tie.Need-slice-aggregate-halve-in
 slice-aggregate-halve-in c = search needs
@@ -26,8 +26,8 @@ same-length c = search needs
 returns : tie.Need-returns
 returns c = search needs
 
-pub in-room-2048-spec : {M : Type 1} → statement M
-in-room-2048-spec =
+pub in-large-room-spec : {M : Type 1} → statement M
+in-large-room-spec =
     tie.close
     (tie.spec
     slice-aggregate-halve-in

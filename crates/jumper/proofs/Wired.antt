@@ -1,0 +1,34 @@
+-- Offsets at which accepted rows have a legal wiring.
+use mathlib.Core.Path.{_≡_}
+use mathlib.Core.List.{List}
+use Prim.Native.Nat.{ℕ, _+_, _<_}
+use native.Mathlib.Omega.{arith}
+use lib.ListN.{length}
+use lib.IntN.{ℤ, pos}
+use lib.Signed.{_≤ℤ_}
+use Rattle.whole.proofs.Arith.{up, down, arithℤ, dif, sum}
+use Rattle.wiring.specs.Wiring.{HasWiring, pad}
+use Rattle.wiring.specs.Fit.{leanOf}
+use Rattle.wiring.proofs.Rule.{spread}
+use Rattle.wiring.proofs.Theorem.{fit-exactly}
+use Rattle.jumper.specs.Limits.{lastColumn, AcceptedOffset}
+use Rattle.jumper.specs.Rows.{AcceptedRow, AcceptedRows}
+
+-- an accepted row leans from 0 to the last column
+lean-low : {a : List ℤ} → AcceptedRow a → (k : ℕ) → k < length a → pos 0 ≤ℤ leanOf a k
+lean-low {a} h k l = omega (arithℤ, dif (pad a k) (pos k), sum (pad a 0) (pos k), spread (h .rising) k 0 k (omega arith) l, h .columns 0 (omega arith) .low)
+
+lean-high : {a : List ℤ} → AcceptedRow a → (k : ℕ) → k < length a → leanOf a k ≤ℤ lastColumn
+lean-high {a} h k l = omega (arithℤ, dif (pad a k) (pos k), h .columns k l .high)
+
+-- below the number of pairs, every whole-number offset at which a legal wiring exists is an accepted one
+pub wired-accepted : {a b : List ℤ} → AcceptedRows a b → (s : ℕ) (d : ℤ) → s < length a → HasWiring a b s d → AcceptedOffset d
+wired-accepted {a} {b} h s d l w =
+    let f = fit-exactly (length a) s (pad a) (pad b) d (h .bottom .rising) (rw (h .equal) (h .top .rising)) .0 w in
+    let x = leanOf a in
+    let y = leanOf b in
+    let e = h .equal in
+    record {
+      low = omega (arithℤ, f .low 0 (omega arith), dif (x 0) (y (0 + s)), lean-low (h .bottom) 0 (omega arith), lean-high (h .top) (0 + s) (omega arith));
+      high = omega (arithℤ, f .high 0 (omega arith), dif (x (0 + s)) (y 0), lean-high (h .bottom) (0 + s) (omega arith), lean-low (h .top) 0 (omega arith));
+    }
