@@ -13,8 +13,8 @@ use lib.IntN.{ℤ}
 use Rattle.jumper.specs.Refusals.{refusalNumbers}
 use Rattle.jumper.specs.declared.refusal.Numbers.{Numbers}
 use Rattle.jumper.specs.declared.refusal.Refusal.the-variants.{Line as NoLine}
-use Rattle.form.specs.Plan.{PlanAnswer}
-use Rattle.form.specs.Line.{outside, padsOf, bottomOf, topOf, wished, withAnswer, Inside, LineAnswer}
+use Rattle.form.specs.Plan.{planOf, PlanAnswer}
+use Rattle.form.specs.Line.{outside, answerOf, padsOf, bottomOf, topOf, wished, withAnswer, Inside, LineAnswer}
 use Rattle.form.specs.declared.wish.Wish.{Wish}
 use Rattle.form.specs.declared.line.Line.{Line}
 
@@ -29,24 +29,31 @@ no-sum i n l h = go (decLt (l - n) i)
     go (yes g) = lt-ltb (l - n) i g ∙ sym (lt-ltb l (i + n) (omega arith))
     go (no g) = le-ltb (l - n) i (omega arith) ∙ sym (le-ltb l (i + n) (omega arith))
 
--- LINE
-pub line-bottom : (l : Line) (p q : List ℤ) → outside (l .bottom) (l .pairs) (length p) ≡ true → LineAnswer l p q (withAnswer l (refusalNumbers NoLine))
-line-bottom l p q e =
-    record {
-      answer = rw e;
-      line = ((λ z i. omega (arith, ltb-true, i .bottom)), (λ z. refl));
-      inside = λ z. absurd (omega arith);
-      planned = λ i. absurd (omega (arith, ltb-true, i .bottom));
-      equal = λ z. omega arith;
-    }
+-- a line's answer, its pads outside and inside the pools
+pub outside-answer : (l : Line) (p q : List ℤ) → (Inside l p q → ⊥) → answerOf l p q ≡ refusalNumbers NoLine
+outside-answer l p q h = go (decLt (length p) (l .bottom + l .pairs)) (decLt (length q) (l .top + l .pairs))
+  where
+    go : Dec (length p < l .bottom + l .pairs) → Dec (length q < l .top + l .pairs) → answerOf l p q ≡ refusalNumbers NoLine
+    go (yes e) d = rw (lt-ltb (length p) (l .bottom + l .pairs) e)
+    go (no e) (yes f) = rw (le-ltb (length p) (l .bottom + l .pairs) (omega arith), lt-ltb (length q) (l .top + l .pairs) f)
+    go (no e) (no f) = absurd (h (record { bottom = omega arith; top = omega arith }))
 
-pub line-top : (l : Line) (p q : List ℤ) → outside (l .bottom) (l .pairs) (length p) ≡ false → outside (l .top) (l .pairs) (length q) ≡ true → LineAnswer l p q (withAnswer l (refusalNumbers NoLine))
-line-top l p q f e =
+pub inside-answer : (l : Line) (p q : List ℤ) → Inside l p q → answerOf l p q ≡ planOf (wished l) (bottomOf l p) (topOf l q)
+inside-answer l p q h = rw (le-ltb (length p) (l .bottom + l .pairs) (h .bottom), le-ltb (length q) (l .top + l .pairs) (h .top))
+
+pub bottom-out : (l : Line) (p q : List ℤ) → outside (l .bottom) (l .pairs) (length p) ≡ true → Inside l p q → ⊥
+bottom-out l p q e i = omega (arith, ltb-true, i .bottom)
+
+pub top-out : (l : Line) (p q : List ℤ) → outside (l .top) (l .pairs) (length q) ≡ true → Inside l p q → ⊥
+top-out l p q e i = omega (arith, ltb-true, i .top)
+
+pub line-outside : (l : Line) (p q : List ℤ) → (Inside l p q → ⊥) → LineAnswer l p q (withAnswer l (refusalNumbers NoLine))
+line-outside l p q none =
     record {
-      answer = rw (f, e);
-      line = ((λ z i. omega (arith, ltb-true, i .top)), (λ z. refl));
+      answer = ap (withAnswer l) (sym (outside-answer l p q none));
+      line = ((λ z. none), (λ z. refl));
       inside = λ z. absurd (omega arith);
-      planned = λ i. absurd (omega (arith, ltb-true, i .top));
+      planned = λ i. absurd (none i);
       equal = λ z. omega arith;
     }
 
@@ -63,7 +70,7 @@ line-planned l p q w r f e v a =
     let n : l .top + l .pairs - l .top ≡ l .pairs = omega arith in
     let h : PlanAnswer (wished l) (bottomOf l p) (topOf l q) r = rw (m, n, v) at a in
     record {
-      answer = rw (f, e) (ap (withAnswer l) (h .answer));
+      answer = ap (withAnswer l) (h .answer ∙ sym (inside-answer l p q i));
       line = ((λ z. absurd (omega (arith, h .known))), (λ z. absurd (z i)));
       inside = λ z. i;
       planned = λ z. h;

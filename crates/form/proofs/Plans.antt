@@ -1,5 +1,5 @@
 -- What each of the four calls promises, said of the numbers that answer its wish.
-use mathlib.Core.Path.{_≡_, refl, ap, _∙_}
+use mathlib.Core.Path.{_≡_, refl, sym, ap, _∙_}
 use mathlib.Core.Bool.{Bool, true, false}
 use mathlib.Core.List.{List}
 use Prim.Native.Nat.{ℕ, zero, suc, _+_, _-_, _≤_, _<_}
@@ -7,17 +7,18 @@ use native.Mathlib.Decide.{decLt}
 use native.Mathlib.Omega.{arith}
 use lib.Dec.{ltb}
 use lib.ListN.{length, replicate}
-use lib.IntN.{ℤ}
+use lib.IntN.{ℤ, pos}
 use lib.Signed.{ltZ}
 use Rattle.whole.proofs.Arith.{up, down, arithℤ}
 use Rattle.wiring.specs.Wiring.{HasWiring}
 use Rattle.wiring.specs.Fit.{leanOf, half}
 use Rattle.jumper.specs.Limits.{maxLadder, AcceptedOffset}
-use Rattle.jumper.specs.Refusals.{refusalNumbers}
+use Rattle.jumper.specs.Refusals.{sideNumber, refusalNumbers}
 use Rattle.jumper.specs.Rows.{AcceptedRows, checkRows}
 use Rattle.jumper.specs.Asked.{checkOffset, AcceptedTracks}
 use Rattle.jumper.specs.Span.{rangeOf}
 use Rattle.jumper.specs.declared.refusal.Refusal.{Refusal}
+use Rattle.jumper.specs.declared.refusal.Numbers.{Numbers}
 use Rattle.jumper.specs.declared.range.OffsetRange.{OffsetRange}
 use Rattle.jumper.specs.declared.rows.Checked.{Checked}
 use Rattle.jumper.specs.declared.rows.Checked.the-variants.{Accepted, Refused}
@@ -41,7 +42,7 @@ use Rattle.best.specs.declared.plan.Best.{Best}
 use Rattle.best.specs.declared.plan.Best.the-variants.{Found, Refused as NoBest}
 use Rattle.best.proofs.Levels.{one-level, more-levels}
 use Rattle.best.proofs.Bests.{ladder-length}
-use Rattle.form.specs.Plan.{fitPlan, leastPlan, rangePlan, PlanAnswer}
+use Rattle.form.specs.Plan.{plannedWith, fitPlan, leastPlan, rangePlan, PlanAnswer}
 use Rattle.form.proofs.Known.{known-fit, known-least, known-range, known-best}
 use Rattle.form.specs.declared.wish.Wish.the-variants.{Fit, Least as Leastwise, Range, Best as Bestwise}
 
@@ -97,6 +98,10 @@ levels-few (suc k) m l h = go (decLt 1 m) (levels-few k (half m))
 ladder-room : (a b : List ℤ) → AcceptedRows a b → length (ladderOf a b) ≤ maxLadder
 ladder-room a b h = omega (arith, ladder-length (length a) (leanOf a) (leanOf b) (h .some), levels-few 11 (length a) (h .some) (h .few))
 
+-- the numbers of a least separation
+abbrev foundLeast : (s i k : ℕ) → Numbers
+foundLeast s i k = record { refusal = 0; place = 0; second = 0; separation = s; lowest = pos 0; highest = pos 0; pair = i; side = k; count = 0 }
+
 module _ (a b : List ℤ) where
   pub fit-plan : (s : ℕ) (d : ℤ) (c : Checked) → FitAnswer a b s d c → PlanAnswer (Fit s d) a b (fitPlan s d c)
   fit-plan s d Accepted h =
@@ -124,6 +129,23 @@ module _ (a b : List ℤ) where
         equal = k .equal;
       }
 
+  -- a least separation s that was found, with its witness
+  least-found : (d : ℤ) (l : Least) (s i k : ℕ) → leastPlan d l ≡ plannedWith s d d i k 0 → leastNumbers l ≡ foundLeast s i k → LeastAnswer a b d l → PlanAnswer (Leastwise d) a b (plannedWith s d d i k 0)
+  least-found d l s i k f e h =
+      let g = (rw e at (h .accepts)) .0 refl in
+      let within = (rw e at (h .within)) refl in
+      let fits = (rw e at (h .fits)) refl in
+      record {
+        answer = sym f ∙ ap (leastPlan d) (h .answer);
+        accepts = ((λ z. (g, tt)), (λ w. refl));
+        means = λ z. record { named = (refl, refl); within = within; fits = fits; least = (rw e at (h .least)) refl; witness = (rw e at (h .witness)) refl };
+        prevents = λ z. omega arith;
+        rows = λ z. g .rows;
+        drawable = λ z. (record { rows = g .rows; tracks = omega (arith, within, g .rows .few); offset = g .offset }, fits);
+        known = omega arith;
+        equal = λ e z. omega arith;
+      }
+
   pub least-plan : (d : ℤ) (l : Least) → LeastAnswer a b d l → PlanAnswer (Leastwise d) a b (leastPlan d l)
   least-plan d (NoLeast r) h =
       let k = rw (← h .answer) at (known-least a b d) in
@@ -137,30 +159,8 @@ module _ (a b : List ℤ) where
         known = k .few;
         equal = k .equal;
       }
-  least-plan d Straight h =
-      let k = h .accepts .0 refl in
-      record {
-        answer = ap (leastPlan d) (h .answer);
-        accepts = ((λ z. (k, tt)), (λ w. refl));
-        means = λ z. record { named = (refl, refl); within = h .within refl; fits = h .fits refl; least = h .least refl; witness = h .witness refl };
-        prevents = λ z. omega arith;
-        rows = λ z. k .rows;
-        drawable = λ z. (record { rows = k .rows; tracks = omega arith; offset = k .offset }, h .fits refl);
-        known = omega arith;
-        equal = λ e z. omega arith;
-      }
-  least-plan d (Tracks s i side) h =
-      let k = h .accepts .0 refl in
-      record {
-        answer = ap (leastPlan d) (h .answer);
-        accepts = ((λ z. (k, tt)), (λ w. refl));
-        means = λ z. record { named = (refl, refl); within = h .within refl; fits = h .fits refl; least = h .least refl; witness = h .witness refl };
-        prevents = λ z. omega arith;
-        rows = λ z. k .rows;
-        drawable = λ z. (record { rows = k .rows; tracks = omega (arith, h .within refl, k .rows .few); offset = k .offset }, h .fits refl);
-        known = omega arith;
-        equal = λ e z. omega arith;
-      }
+  least-plan d Straight h = least-found d Straight 0 0 0 refl refl h
+  least-plan d (Tracks s i side) h = least-found d (Tracks s i side) s i (sideNumber side) refl refl h
 
   pub range-plan : (s : ℕ) (q : Offsets) → OffsetsAnswer a b s q → PlanAnswer (Range s) a b (rangePlan s q)
   range-plan s (NoRange r) h =

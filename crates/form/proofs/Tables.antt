@@ -14,41 +14,33 @@ use lib.ListN.{length, getD, set, length-set, length-map}
 use lib.Seq.{getD-set-same, getD-set-other, ext-getD}
 use lib.IntN.{ℤ}
 use Rattle.jumper.specs.Limits.{maxLines}
-use Rattle.jumper.specs.Refusals.{refusalNumbers}
-use Rattle.jumper.specs.declared.refusal.Refusal.the-variants.{Line as NoLine}
-use Rattle.form.specs.Plan.{planOf}
-use Rattle.form.specs.Line.{answerOf, answeredOf, bottomOf, topOf, wished, Inside, LineAnswer, SameLine}
+use Rattle.form.specs.Line.{answerOf, answeredOf, Inside, LineAnswer, SameLine}
 use Rattle.form.specs.Table.{noRecord, recordAt, tooLong, lineSays, lineDone, allSays, answeredEach, allDone, inOrder, among, OneAnswered, AllAnswered, RowsAnswered}
 use Rattle.form.specs.declared.line.Line.{Line}
+use Rattle.form.proofs.Lines.{outside-answer, inside-answer}
 
 -- ---- what each way out says
 module _ (t : List Line) (k : ℕ) (p q : List ℤ) where
-  pub one-long : maxLines < length t → OneAnswered t k p q 12 t
-  one-long h =
-      let e = lt-ltb maxLines (length t) h in
+  one-refused : 12 ≡ lineSays t k → t ≡ lineDone t k p q → (k < length t → length t ≤ maxLines → ⊥) → OneAnswered t k p q 12 t
+  one-refused e f none =
       record {
-        answer = rw e;
-        table = rw e;
-        accepts = ((λ z. absurd (omega arith)), (λ z. absurd (omega arith)));
+        answer = e;
+        table = f;
+        accepts = ((λ z. absurd (omega arith)), (λ z. absurd (none (z .0) (z .1))));
         refused = λ z. (refl, refl);
         means = λ z. absurd (omega arith);
         others = λ j z. refl;
         size = refl;
       }
+
+  pub one-long : maxLines < length t → OneAnswered t k p q 12 t
+  one-long h = let e = lt-ltb maxLines (length t) h in one-refused (rw e) (rw e) (λ g l. omega arith)
 
   pub one-past : length t ≤ maxLines → length t ≤ k → OneAnswered t k p q 12 t
   one-past h g =
       let e = le-ltb maxLines (length t) h in
       let f = le-leb (length t) k g in
-      record {
-        answer = rw (e, f);
-        table = rw (e, f);
-        accepts = ((λ z. absurd (omega arith)), (λ z. absurd (omega arith)));
-        refused = λ z. (refl, refl);
-        means = λ z. absurd (omega arith);
-        others = λ j z. refl;
-        size = refl;
-      }
+      one-refused (rw (e, f)) (rw (e, f)) (λ l m. omega arith)
 
   pub one-good : (r : Line) → length t ≤ maxLines → k < length t → LineAnswer (recordAt t k) p q r → OneAnswered t k p q 0 (set t k r)
   one-good r h g a =
@@ -251,17 +243,6 @@ pub all-in-turn : (t : List Line) (p q : List ℤ) → inOrder (onward 0 (length
 all-in-turn t p q = all-in-any-order p q (onward 0 (length t)) t (λ j h. onward-among j 0 (length t) (omega arith) (omega arith))
 
 -- ---- a line's answer depends on its own record and pads alone
-pub outside-answer : (l : Line) (p q : List ℤ) → (Inside l p q → ⊥) → answerOf l p q ≡ refusalNumbers NoLine
-outside-answer l p q h = go (decLt (length p) (l .bottom + l .pairs)) (decLt (length q) (l .top + l .pairs))
-  where
-    go : Dec (length p < l .bottom + l .pairs) → Dec (length q < l .top + l .pairs) → answerOf l p q ≡ refusalNumbers NoLine
-    go (yes e) d = rw (lt-ltb (length p) (l .bottom + l .pairs) e)
-    go (no e) (yes f) = rw (le-ltb (length p) (l .bottom + l .pairs) (omega arith), lt-ltb (length q) (l .top + l .pairs) f)
-    go (no e) (no f) = absurd (h (record { bottom = omega arith; top = omega arith }))
-
-pub inside-answer : (l : Line) (p q : List ℤ) → Inside l p q → answerOf l p q ≡ planOf (wished l) (bottomOf l p) (topOf l q)
-inside-answer l p q h = rw (le-ltb (length p) (l .bottom + l .pairs) (h .bottom), le-ltb (length q) (l .top + l .pairs) (h .top))
-
 pub own-answer : (l : Line) (p q : List ℤ) (l' : Line) (p' q' : List ℤ) → SameLine l p q l' p' q' → answerOf l p q ≡ answerOf l' p' q'
 own-answer l p q l' p' q' s = go (decLt (length p) (l .bottom + l .pairs)) (decLt (length q) (l .top + l .pairs))
   where

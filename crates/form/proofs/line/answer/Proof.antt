@@ -3,7 +3,7 @@ use Prim.Native.Nat.{_+_, _≤_}
 use borrow.Author.Tests.{ltb-false}
 use lib.ListN.{length}
 use Rattle.whole.proofs.Machine.{back}
-use Rattle.form.proofs.Lines.{line-bottom, line-top, line-planned}
+use Rattle.form.proofs.Lines.{bottom-out, top-out, line-outside, line-planned}
 use borrow.Author.Needs.{needs}
 use Rattle.form.proofs.line.answer.Statement.{statement}
 use Rattle.form.proofs.line.answer.Tie as tie
@@ -15,7 +15,7 @@ numbers-requires : tie.Need-numbers-requires
 numbers-requires c κs = search needs
 
 returns : tie.Need-returns
-returns c = rw (c .numbers .ensures) (line-bottom _ _ _ (sym (c .before .before .runs-out .ensures) ∙ c .before .if1 .taken))
+returns c = rw (c .numbers .ensures) (line-outside _ _ _ (bottom-out _ _ _ (sym (c .before .before .runs-out .ensures) ∙ c .before .if1 .taken)))
 
 runs-out-requires-2 : tie.Need-runs-out-requires-2
 runs-out-requires-2 c κs = search needs
@@ -24,7 +24,7 @@ numbers-requires-2 : tie.Need-numbers-requires-2
 numbers-requires-2 c κs = search needs
 
 returns-2 : tie.Need-returns-2
-returns-2 c = rw (c .numbers2 .ensures) (line-top _ _ _ (sym (c .before .before .before .before .runs-out .ensures) ∙ c .before .before .before .if1 .left) (sym (c .before .before .runs-out2 .ensures) ∙ c .before .if2 .taken))
+returns-2 c = rw (c .numbers2 .ensures) (line-outside _ _ _ (top-out _ _ _ (sym (c .before .before .runs-out2 .ensures) ∙ c .before .if2 .taken)))
 
 add-p : tie.Need-add-p
 add-p c =

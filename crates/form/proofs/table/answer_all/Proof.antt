@@ -53,6 +53,7 @@ use denote.Triple.Clauses.{ensured}
 use denote.Triple.Table.{entered, cited}
 use denote.Triple.Walked.{says, Stays, stay-slice, stay-none-slice, walkOf, AllGo, goes-slice, goes-none-slice, Walks, ends-at, walked, walk-meets}
 use denote.Exit.{yes as ok}
+use Rattle.jumper.specs.Limits.{maxLines}
 use Rattle.form.specs.Line.{answeredOf, LineAnswer}
 use Rattle.form.specs.Table.{noRecord, AllAnswered}
 use Rattle.form.specs.declared.line.Line.{Line}
@@ -218,7 +219,7 @@ module _ {M : Type 1} (𝓤 : URA M) (H : Heap 𝓤) (A : Atoms 𝓤) (W : Given
         next-is : (r : Line) → LineAnswer d (now pa) (now pb) r → set t (i .0) r ≡ upto f (i .0 + 1) ys
         next-is r e = ap (set t (i .0)) (e .answer) ∙ upto-set f (i .0) ys noRecord less ∙ ap (λ (m : ℕ). upto f m ys) (sym (add-one (i .0)))
 
-    ends : (i : Upto) → n ≤ 64 → n ≤ i .0 → Sq W (At i) (runs C Λ E mir.turn-1 (anyQ (Turned i)))
+    ends : (i : Upto) → n ≤ maxLines → n ≤ i .0 → Sq W (At i) (runs C Λ E mir.turn-1 (anyQ (Turned i)))
     unfolding afterTurn
     ends i few over =
         assigns ! (of-opd ! (load ! (from ! (fld ! refl (stop !))) (look-in ! 27 (sub ! 1 refl (whole !))))) (from ! (stop !)) (init ! 13 refl (tt, record { fits = room .0 })) $
@@ -233,7 +234,7 @@ module _ {M : Type 1} (𝓤 : URA M) (H : Heap 𝓤) (A : Atoms 𝓤) (W : Given
         reached : n ≡ i .0
         reached = le-antisymm over (i .1)
 
-    turns : (i : Upto) → n ≤ 64 → Dec (i .0 < n) → Sq W (At i) (runs C Λ E mir.turn-1 (anyQ (Turned i)))
+    turns : (i : Upto) → n ≤ maxLines → Dec (i .0 < n) → Sq W (At i) (runs C Λ E mir.turn-1 (anyQ (Turned i)))
     turns i few (yes less) = more i less
     turns i few (no over) = ends i few (omega arith)
 
@@ -251,10 +252,10 @@ module _ {M : Type 1} (𝓤 : URA M) (H : Heap 𝓤) (A : Atoms 𝓤) (W : Given
       first ! $ branches ! (load ! (from ! (stop !)) (look ! 15 refl))
       (λ big. assigns ! (of-opd ! (lit ! tt)) (from ! (stop !)) (init ! 29 refl (tt, record { fits = lit< tt })) $ returns-within ! Post refl (look ! 29 refl) $
       forget ! 15 refl $ forget ! 17 refl $ forget ! 23 refl $ forget ! 25 refl $ forget ! 27 refl $ forget ! 29 refl $
-      freed 𝓣 known l₀ l₁ l₂ l₃ l₄ l₅ l₆ l₇ l₈ l₉ l₁₀ l₁₁ l₁₂ 12 ys (lit< tt) refl (all-long ys (now pa) (now pb) (ltb→lt 64 (length ys) big)))
+      freed 𝓣 known l₀ l₁ l₂ l₃ l₄ l₅ l₆ l₇ l₈ l₉ l₁₀ l₁₁ l₁₂ 12 ys (lit< tt) refl (all-long ys (now pa) (now pb) (ltb→lt maxLines (length ys) big)))
       (λ few. skips ! $ exec ! (𝓣 .C) (𝓣 .Λ) (E 𝓣 known l₀ l₁ l₂ l₃ l₄ l₅ l₆ l₇ l₈ l₉ l₁₀ l₁₁ l₁₂) mir.t-4 (atRet (E 𝓣 known l₀ l₁ l₂ l₃ l₄ l₅ l₆ l₇ l₈ l₉ l₁₀ l₁₁ l₁₂) Post) $
       assigns ! (of-opd ! (lit ! tt)) (from ! (stop !)) (init ! 21 refl (tt, record { fits = lit< tt })) $ forget ! 15 refl $ forget ! 17 refl $
-      first ! $ blocks ! $ loops ! 𝓣 Nearer Nearer-wf (At 𝓣 known l₀ l₁ l₂ l₃ l₄ l₅ l₆ l₇ l₈ l₉ l₁₀ l₁₁ l₁₂) (λ i. turns 𝓣 known l₀ l₁ l₂ l₃ l₄ l₅ l₆ l₇ l₈ l₉ l₁₀ l₁₁ l₁₂ i (nltb→le 64 n few) (decLt (i .0) n)) (0, zero-le, none-done ys (now pa) (now pb))))))))))))))))
+      first ! $ blocks ! $ loops ! 𝓣 Nearer Nearer-wf (At 𝓣 known l₀ l₁ l₂ l₃ l₄ l₅ l₆ l₇ l₈ l₉ l₁₀ l₁₁ l₁₂) (λ i. turns 𝓣 known l₀ l₁ l₂ l₃ l₄ l₅ l₆ l₇ l₈ l₉ l₁₀ l₁₁ l₁₂ i (nltb→le maxLines n few) (decLt (i .0) n)) (0, zero-le, none-done ys (now pa) (now pb))))))))))))))))
 
 module _ {M : Type 1} (𝓤 : URA M) (H : Heap 𝓤) (A : Atoms 𝓤) (W : Given 𝓤 H A) (mem : Memory → SProp 𝓤) (run : Routine → Fun 𝓤) where
   goes : AllGo 𝓤 H A W 3 (it.signature .params) (it.ended .kept) stayed

@@ -45,6 +45,7 @@ use denote.Triple.Clauses.{ensured}
 use denote.Triple.Table.{entered, cited}
 use denote.Triple.Walked.{says, Stays, stay-none, stay-slice, stay-none-slice, walkOf, AllGo, goes-none, goes-slice, goes-none-slice, Walks, ends-at, walked, walk-meets}
 use denote.Exit.{yes}
+use Rattle.jumper.specs.Limits.{maxLines}
 use Rattle.form.specs.Line.{LineAnswer}
 use Rattle.form.specs.Table.{noRecord, OneAnswered}
 use Rattle.form.specs.declared.line.Line.{Line}
@@ -146,14 +147,14 @@ module _ {M : Type 1} (𝓤 : URA M) (H : Heap 𝓤) (A : Atoms 𝓤) (W : Given
         first ! $ branches ! (load ! (from ! (stop !)) (look ! 11 refl))
         (λ big. assigns ! (of-opd ! (lit ! tt)) (from ! (stop !)) (init ! 25 refl (tt, record { fits = lit< tt })) $ returns-within ! Post refl (look ! 25 refl) $
         forget ! 11 refl $ forget ! 13 refl $ forget ! 17 refl $ forget ! 19 refl $ forget ! 21 refl $ forget ! 23 refl $ forget ! 25 refl $
-        freed C Λ fm known l₀ l₁ l₂ l₃ l₄ l₅ l₆ l₇ l₈ l₉ l₁₀ 12 ys (lit< tt) refl (one-long ys k (now pa) (now pb) (ltb→lt 64 (length ys) big)))
+        freed C Λ fm known l₀ l₁ l₂ l₃ l₄ l₅ l₆ l₇ l₈ l₉ l₁₀ 12 ys (lit< tt) refl (one-long ys k (now pa) (now pb) (ltb→lt maxLines (length ys) big)))
         (λ few. skips ! $ exec ! C Λ (E C Λ fm known l₀ l₁ l₂ l₃ l₄ l₅ l₆ l₇ l₈ l₉ l₁₀) mir.t-4 (atRet (E C Λ fm known l₀ l₁ l₂ l₃ l₄ l₅ l₆ l₇ l₈ l₉ l₁₀) Post) $
         assigns ! (of-opd ! (load ! (from ! (fld ! refl (stop !))) (look-in ! 23 (sub ! 1 refl (whole !))))) (from ! (stop !)) (store ! 13 refl (tt, record { fits = room .0 })) $
         assigns ! (bin ! (load ! (from ! (stop !)) (look ! 13 refl)) (load ! (from ! (stop !)) (look ! 21 refl)) tt) (from ! (stop !)) (store ! 11 refl (tt, tt)) $
         first ! $ branches ! (load ! (from ! (stop !)) (look ! 11 refl))
         (λ over. assigns ! (of-opd ! (lit ! tt)) (from ! (stop !)) (init ! 25 refl (tt, record { fits = lit< tt })) $ returns-within ! Post refl (look ! 25 refl) $
         forget ! 11 refl $ forget ! 13 refl $ forget ! 17 refl $ forget ! 19 refl $ forget ! 21 refl $ forget ! 23 refl $ forget ! 25 refl $
-        freed C Λ fm known l₀ l₁ l₂ l₃ l₄ l₅ l₆ l₇ l₈ l₉ l₁₀ 12 ys (lit< tt) refl (one-past ys k (now pa) (now pb) (nltb→le 64 (length ys) few) (leb→le (length ys) k over)))
+        freed C Λ fm known l₀ l₁ l₂ l₃ l₄ l₅ l₆ l₇ l₈ l₉ l₁₀ 12 ys (lit< tt) refl (one-past ys k (now pa) (now pb) (nltb→le maxLines (length ys) few) (leb→le (length ys) k over)))
         (λ in-it. skips ! $ exec ! C Λ (E C Λ fm known l₀ l₁ l₂ l₃ l₄ l₅ l₆ l₇ l₈ l₉ l₁₀) mir.t-7 (atRet (E C Λ fm known l₀ l₁ l₂ l₃ l₄ l₅ l₆ l₇ l₈ l₉ l₁₀) Post) $
         let within : k < length ys = nleb→lt (length ys) k in-it in
         let scaled : Fits w64 (k * 96) = scaled-fits k (length ys) 96 within (room .1) in
@@ -186,7 +187,7 @@ module _ {M : Type 1} (𝓤 : URA M) (H : Heap 𝓤) (A : Atoms 𝓤) (W : Given
         move ! (3 ∷ 0 ∷ 5 ∷ []) $ elem-put ! R fullShare ys k r (vals r) b o within $ move ! (3 ∷ []) $ drop ! $ move ! (0 ∷ 3 ∷ 4 ∷ 5 ∷ 2 ∷ []) $ closes-slice ! tt R ys (set ys k r) (length-set ys k r) b o $
         -- [obs; the borrow; the token; the pools; their tokens; _10 at 5; …]
         returns ! (look ! 25 refl) $ forget ! 5 refl $ forget ! 7 refl $ forget ! 9 refl $ forget ! 11 refl $ forget ! 13 refl $ forget ! 15 refl $ forget ! 17 refl $ forget ! 19 refl $ forget ! 21 refl $ forget ! 23 refl $ forget ! 25 refl $
-        freed C Λ fm known l₀ l₁ l₂ l₃ l₄ l₅ l₆ l₇ l₈ l₉ l₁₀ 0 (set ys k r) (lit< tt) (length-set ys k r) (one-good ys k (now pa) (now pb) r (nltb→le 64 (length ys) few) within e)))))))))))))))))))
+        freed C Λ fm known l₀ l₁ l₂ l₃ l₄ l₅ l₆ l₇ l₈ l₉ l₁₀ 0 (set ys k r) (lit< tt) (length-set ys k r) (one-good ys k (now pa) (now pb) r (nltb→le maxLines (length ys) few) within e)))))))))))))))))))
 
 module _ {M : Type 1} (𝓤 : URA M) (H : Heap 𝓤) (A : Atoms 𝓤) (W : Given 𝓤 H A) (mem : Memory → SProp 𝓤) (run : Routine → Fun 𝓤) where
   goes : AllGo 𝓤 H A W 3 (it.signature .params) (it.ended .kept) stayed

@@ -49,6 +49,7 @@ use denote.Triple.Clauses.{ensured, lasts}
 use denote.Triple.Table.{entered, cited}
 use denote.Triple.Walked.{says, Stays, stay-none, stay-none-slice, walkOf, AllGo, goes-none, goes-none-slice, Walks, ends-at, walked, walk-meets}
 use denote.Exit.{yes}
+use Rattle.jumper.specs.Limits.{maxLines}
 use Rattle.form.specs.Table.{AllAnswered, RowsAnswered}
 use Rattle.form.specs.declared.line.Line.{Line}
 use Rattle.form.proofs.Tables.{rows-good}
@@ -65,14 +66,14 @@ use Rattle.form.proofs.table.answer_rows.Statement as stated
 use Rattle.form.proofs.table.answer_rows.Code as code
 
 abbrev Rows : RattleType
-Rows = Array R 64
+Rows = Array R maxLines
 
 -- the machine value of an array of lines, and its MIR type
 abbrev av : List Line → Val
 av l = only (array-vals vals l)
 
 abbrev rows-ty : Ty
-rows-ty = tyArray L′.mir 64
+rows-ty = tyArray L′.mir maxLines
 
 abbrev stayed : Stays (it.ended .signature .params) (it.ended .kept)
 stayed = (stay-none (λ _. Rows) yes, (stay-none-slice (0 ∷ []) tt (plain (λ _. i32)) yes, (stay-none-slice (1 ∷ []) tt (plain (λ _. i32)) yes, tt)))
@@ -83,10 +84,10 @@ All 𝓤 H A mem run = tripleOf 𝓤 H A all.signature (all.spec 𝓤 H A mem ru
 
 module _ {M : Type 1} (𝓤 : URA M) (H : Heap 𝓤) (A : Atoms 𝓤) (W : Given 𝓤 H A) where
   makes : Makes 𝓤 H A Rows (Is Rows)
-  makes = array-makes 𝓤 H A W R (LL.makes L.the-type L′.the-plain 𝓤 H A) 64
+  makes = array-makes 𝓤 H A W R (LL.makes L.the-type L′.the-plain 𝓤 H A) maxLines
 
   lawful : Lawful 𝓤 H A Rows
-  lawful = array-lawful 𝓤 H A W R (LL.lawful L.the-type L′.the-laws 𝓤 H A W) 64
+  lawful = array-lawful 𝓤 H A W R (LL.lawful L.the-type L′.the-laws 𝓤 H A W) maxLines
 
   -- a local array is its elements side by side, and back
   to-cells : (ys : List Line) (l : ℕ) → Is Rows ys (av ys ∷ []) → ent 𝓤 (sem 𝓤 H A (fat fullShare rows-ty l 0 (av ys))) (sem 𝓤 H A (cells (mem R) ys l 0))
@@ -94,14 +95,14 @@ module _ {M : Type 1} (𝓤 : URA M) (H : Heap 𝓤) (A : Atoms 𝓤) (W : Given
   to-cells ys l g =
       qed W (‵ (fat fullShare rows-ty l 0 (av ys)) ∷ []) ∵ use1 W (‵ (cellAt fullShare (Rows .mir) (av ys ∷ []) l 0)) (W .laws .at-raw fullShare rows-ty l 0 (av ys)) $
       owned ! Rows (Is Rows) makes ys (av ys ∷ []) g $ move ! (1 ∷ 0 ∷ []) $ fjoin ! $ fpack ! (List Val) (λ us. fsep (cellAt fullShare (Rows .mir) us l 0) (Rows .own ys us)) (av ys ∷ []) $
-      use1 W (‵ (arr-parts (shares R) 64 .part fullShare ys l 0)) (array-apart 𝓤 H A W R fullShare tt 64 ys l 0) $ fsplit ! $ drop ! $ use1 W (‵ (cells (mem R) ys l 0)) (whole-in 𝓤 H A W R ys l 0) $ done !
+      use1 W (‵ (arr-parts (shares R) maxLines .part fullShare ys l 0)) (array-apart 𝓤 H A W R fullShare tt maxLines ys l 0) $ fsplit ! $ drop ! $ use1 W (‵ (cells (mem R) ys l 0)) (whole-in 𝓤 H A W R ys l 0) $ done !
 
-  of-cells : (zs : List Line) (l : ℕ) → ent 𝓤 (sem 𝓤 H A (Arr (mem R) 64 .lies zs l 0)) (guard 𝓤 (Is Rows zs (av zs ∷ [])) (sem 𝓤 H A (fat fullShare rows-ty l 0 (av zs))))
+  of-cells : (zs : List Line) (l : ℕ) → ent 𝓤 (sem 𝓤 H A (Arr (mem R) maxLines .lies zs l 0)) (guard 𝓤 (Is Rows zs (av zs ∷ [])) (sem 𝓤 H A (fat fullShare rows-ty l 0 (av zs))))
   unfolding partOf
   of-cells zs l =
-      qed W (‵ (Arr (mem R) 64 .lies zs l 0) ∷ []) ∵ fsplit ! $ move ! (1 ∷ []) $ use1 W (‵ (row R fullShare zs l 0)) (whole-out 𝓤 H A W R zs l 0) $ move ! (1 ∷ 0 ∷ []) $ fjoin ! $
-      use1 W (‵ (partAt Rows fullShare zs l 0)) (array-whole 𝓤 H A W R fullShare 64 zs l 0) $ fpick ! (λ us. fsplit ! $
-      spelt ! Rows (Is Rows) (shows 𝓤 H A Rows) (array-vals vals) (array-tells R vals (LL.tells L.the-type L′.the-laws) 64) fullShare zs us l 0 $ move ! (1 ∷ []) $
+      qed W (‵ (Arr (mem R) maxLines .lies zs l 0) ∷ []) ∵ fsplit ! $ move ! (1 ∷ []) $ use1 W (‵ (row R fullShare zs l 0)) (whole-out 𝓤 H A W R zs l 0) $ move ! (1 ∷ 0 ∷ []) $ fjoin ! $
+      use1 W (‵ (partAt Rows fullShare zs l 0)) (array-whole 𝓤 H A W R fullShare maxLines zs l 0) $ fpick ! (λ us. fsplit ! $
+      spelt ! Rows (Is Rows) (shows 𝓤 H A Rows) (array-vals vals) (array-tells R vals (LL.tells L.the-type L′.the-laws) maxLines) fullShare zs us l 0 $ move ! (1 ∷ []) $
       peeks ! Rows (Is Rows) (shows 𝓤 H A Rows) zs (av zs ∷ []) (λ g. drop ! $ check ! g $ use1 W (‵ (fat fullShare rows-ty l 0 (av zs))) (W .laws .raw-at fullShare rows-ty l 0 (av zs)) $ done !))
 
 module _ {M : Type 1} (𝓤 : URA M) (H : Heap 𝓤) (A : Atoms 𝓤) (W : Given 𝓤 H A) (mem′ : Memory → SProp 𝓤) (run : Routine → Fun 𝓤) (κa κb : Lft) (qa qb : Share) (ys : List Line) (pa pb : RefT (List ℤ)) (g : Is Rows ys (av ys ∷ [])) where
@@ -127,7 +128,7 @@ module _ {M : Type 1} (𝓤 : URA M) (H : Heap 𝓤) (A : Atoms 𝓤) (W : Given
   Post = walkOf 𝓤 H A it.ended stayed (it.clauses 𝓤 H A mem′ run) .post bound
 
   -- the array has 64 lines
-  long : length ys ≡ 64
+  long : length ys ≡ maxLines
   long = g .1 .0 .1
 
   abbrev Tokens : Item 𝓤
@@ -149,13 +150,13 @@ module _ {M : Type 1} (𝓤 : URA M) (H : Heap 𝓤) (A : Atoms 𝓤) (W : Given
   pass b δ = (y b δ, (pa, (pb, tt)))
 
   abbrev to : ℕ → ℕ → GName → All 𝓤 H A mem′ run .Ghost
-  to b ν δ = (((ν ∷ [], (κa, (κb, tt))), (fullShare, (qa, (qb, tt))), tt, pass b δ, (sliceVal (b, 0) 64 ∷ [], (va ∷ [], (vb ∷ [], tt)))), tt)
+  to b ν δ = (((ν ∷ [], (κa, (κb, tt))), (fullShare, (qa, (qb, tt))), tt, pass b δ, (sliceVal (b, 0) maxLines ∷ [], (va ∷ [], (vb ∷ [], tt)))), tt)
 
-  asked : (b ν : ℕ) (δ : GName) → ent 𝓤 (⋆ 𝓤 H A ((‵ (flft (ν ∷ []) fullShare) ⊛ Tokens) ∷ ‵ (MutSlice (named 0) (ν ∷ []) R .own (y b δ) (sliceVal (b, 0) 64 ∷ [])) ∷ ‵ (Pools κa κb pa pb) ∷ [])) (sep 𝓤 (All 𝓤 H A mem′ run .pre (to b ν δ)) (sem 𝓤 H A (Pools κa κb pa pb)))
+  asked : (b ν : ℕ) (δ : GName) → ent 𝓤 (⋆ 𝓤 H A ((‵ (flft (ν ∷ []) fullShare) ⊛ Tokens) ∷ ‵ (MutSlice (named 0) (ν ∷ []) R .own (y b δ) (sliceVal (b, 0) maxLines ∷ [])) ∷ ‵ (Pools κa κb pa pb) ∷ [])) (sep 𝓤 (All 𝓤 H A mem′ run .pre (to b ν δ)) (sem 𝓤 H A (Pools κa κb pa pb)))
   asked b ν δ =
-      qed W ((‵ (flft (ν ∷ []) fullShare) ⊛ Tokens) ∷ ‵ (MutSlice (named 0) (ν ∷ []) R .own (y b δ) (sliceVal (b, 0) 64 ∷ [])) ∷ ‵ (Pools κa κb pa pb) ∷ []) ∵ move ! (2 ∷ []) $ use1 W (‵ (Pools κa κb pa pb) ⊛ ‵ (Pools κa κb pa pb)) (twice 𝓤 H A W κa κb pa pb) $ split ! $
+      qed W ((‵ (flft (ν ∷ []) fullShare) ⊛ Tokens) ∷ ‵ (MutSlice (named 0) (ν ∷ []) R .own (y b δ) (sliceVal (b, 0) maxLines ∷ [])) ∷ ‵ (Pools κa κb pa pb) ∷ []) ∵ move ! (2 ∷ []) $ use1 W (‵ (Pools κa κb pa pb) ⊛ ‵ (Pools κa κb pa pb)) (twice 𝓤 H A W κa κb pa pb) $ split ! $
       move ! (3 ∷ 0 ∷ []) $ fjoin ! $ move ! (2 ∷ 0 ∷ []) $
-      use2 W (raw (All 𝓤 H A mem′ run .pre (to b ν δ))) (qed W ((‵ (flft (ν ∷ []) fullShare) ⊛ Tokens) ∷ ‵ (owns (MutSlice (named 0) (ν ∷ []) R ∷ ShrSlice (named 1) κa i32 ∷ ShrSlice (named 2) κb i32 ∷ []) (pass b δ) (sliceVal (b, 0) 64 ∷ [], (va ∷ [], (vb ∷ [], tt)))) ∷ []) ∵ join ! $ frame ! $ done !) $ frame ! $ done !
+      use2 W (raw (All 𝓤 H A mem′ run .pre (to b ν δ))) (qed W ((‵ (flft (ν ∷ []) fullShare) ⊛ Tokens) ∷ ‵ (owns (MutSlice (named 0) (ν ∷ []) R ∷ ShrSlice (named 1) κa i32 ∷ ShrSlice (named 2) κb i32 ∷ []) (pass b δ) (sliceVal (b, 0) maxLines ∷ [], (va ∷ [], (vb ∷ [], tt)))) ∷ []) ∵ join ! $ frame ! $ done !) $ frame ! $ done !
 
   module _ (C : Calls 𝓤 H) (Λ : Loops 𝓤 H) (fm : FmC 𝓤 H (W .laws) C) (known : Triple 𝓤 (C #form·answer-all) (All 𝓤 H A mem′ run)) where
     walk : Room i32 (length (pa .now)) → Room i32 (length (pb .now)) → ent 𝓤 (onEntry 𝓤 H A it.signature (κa, (κb, tt)) (qa, (qb, tt)) a at) (WpFn 𝓤 H C Λ code.function (av ys ∷ va ∷ vb ∷ []) Post)
@@ -202,7 +203,7 @@ module _ {M : Type 1} (𝓤 : URA M) (H : Heap 𝓤) (A : Atoms 𝓤) (W : Given
 
   walks : (C : Calls 𝓤 H) (Λ : Loops 𝓤 H) → FmC 𝓤 H (W .laws) C → Triple 𝓤 (C #form·answer-all) (All 𝓤 H A mem′ run) → Walks 𝓤 H A it.ended stayed (WpFn 𝓤 H C Λ code.function) (it.clauses 𝓤 H A mem′ run)
   walks C Λ fm known = walked 𝓤 H A it.ended stayed (it.clauses 𝓤 H A mem′ run) (WpFn 𝓤 H C Λ code.function)
-      (λ κs. (array-vals vals, (slice-vals, (slice-vals, tt)))) (λ κs. (array-tells R vals (LL.tells L.the-type L′.the-laws) 64, (shr-slice-tells (named 0) (κs .0) i32, (shr-slice-tells (named 1) (κs .1 .0) i32, tt))))
+      (λ κs. (array-vals vals, (slice-vals, (slice-vals, tt)))) (λ κs. (array-tells R vals (LL.tells L.the-type L′.the-laws) maxLines, (shr-slice-tells (named 0) (κs .0) i32, (shr-slice-tells (named 1) (κs .1 .0) i32, tt))))
       (λ κs qs bounds a g are. via 𝓤 _ (fst∗ 𝓤 _ (emp 𝓤))
       (walk 𝓤 H A W mem′ run (κs .0) (κs .1 .0) (qs .0) (qs .1 .0) (a .0) (a .1 .0) (a .1 .1 .0) (are .0) C Λ fm known (are .1 .0 .0 .1) (are .1 .1 .0 .0 .1)))
 
