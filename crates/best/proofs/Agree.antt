@@ -2,12 +2,12 @@
 use mathlib.Core.Path.{_≡_, refl, sym, ap, _∙_}
 use mathlib.Core.Bool.{Bool, true, false, cond}
 use mathlib.Core.List.{List}
-use Prim.Native.Nat.{ℕ, zero, suc, _+_, _-_, _*_, _/_, _≤_, _<_}
+use Prim.Native.Nat.{ℕ, zero, suc, _+_, _-_, _*_, _≤_, _<_}
 use native.Mathlib.Omega.{arith}
 use lib.ListN.{take}
 use lib.Seq.{getD-take}
-use lib.IntN.{ℤ, pos, _-ℤ_, natAbs}
-use lib.Signed.{_≤ℤ_, ltZ}
+use lib.IntN.{ℤ, pos}
+use lib.Signed.{ltZ}
 use Rattle.whole.specs.Pick.{firstBy, largestAt, smallestAt}
 use Rattle.wiring.specs.Wiring.{pad}
 use Rattle.wiring.specs.Fit.{Steady, lowEnd, highEnd, evens, half}

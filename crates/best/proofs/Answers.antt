@@ -1,35 +1,28 @@
 -- The promise of the best call, case by case: refused rows, a short buffer, an answer.
-use mathlib.Core.Path.{_≡_, refl, sym, ap, _∙_}
-use mathlib.Core.Bool.{Bool, true, false}
-use mathlib.Core.List.{List, [], _∷_, _++_}
+use mathlib.Core.Path.{_≡_, refl, sym, _∙_}
+use mathlib.Core.List.{List}
 use mathlib.Core.Logic.{_↔_}
-use Prim.Native.Nat.{ℕ, _+_, _*_, _≤_, _<_}
+use Prim.Native.Nat.{ℕ, _*_, _≤_, _<_}
 use native.Mathlib.Omega.{arith}
 use borrow.Author.Tests.{lt-ltb, le-ltb}
-use lib.Dec.{ltb}
-use lib.ListN.{length, drop}
+use lib.ListN.{length}
 use lib.IntN.{ℤ}
-use lib.Signed.{_≤ℤ_}
 use Rattle.whole.proofs.Arith.{up, down, arithℤ}
 use Rattle.wiring.specs.Wiring.{pad, HasWiring}
 use Rattle.wiring.specs.Fit.{leanOf, Fits}
 use Rattle.wiring.proofs.Theorem.{fit-exactly}
 use Rattle.jumper.specs.Refusals.{refusalNumbers}
 use Rattle.jumper.specs.Rows.{AcceptedRows, checkRows}
-use Rattle.jumper.specs.Range.{Within}
-use Rattle.jumper.specs.Span.{rangeOf}
 use Rattle.jumper.specs.declared.refusal.Refusal.{Refusal}
 use Rattle.jumper.specs.declared.refusal.Refusal.the-variants.{Buffer}
-use Rattle.jumper.specs.declared.rows.Checked.{Checked}
 use Rattle.jumper.specs.declared.rows.Checked.the-variants.{Accepted, Refused as RowsRefused}
 use Rattle.jumper.proofs.Accepted.{numbered, refused-not, rows-of, of-rows}
 use Rattle.jumper.proofs.Checks.{early-rows}
 use Rattle.jumper.proofs.Spans.{range-exactly}
-use Rattle.best.specs.Halving.{halving, levels}
-use Rattle.best.specs.Best.{bestNumbers, halvingOf, ladderOf, plannedOf, bestAnswer, ladderBy, BestAnswer}
+use Rattle.best.specs.Halving.{levels}
+use Rattle.best.specs.Best.{halvingOf, ladderOf, BestAnswer}
 use Rattle.best.specs.Work.{Plannable, IsPlanned}
 use Rattle.best.specs.declared.plan.Planned.{Planned}
-use Rattle.best.specs.declared.plan.Best.{Best}
 use Rattle.best.specs.declared.plan.Best.the-variants.{Found, Refused}
 use Rattle.best.proofs.Plans.{top-rises, halvable-lean}
 use Rattle.best.proofs.Bests.{BestOf, best-is-best, count-fixed, count-cheap, ladder-length}

@@ -1,20 +1,17 @@
 -- THE LAWS OF THE HALVING: its best is the best (003, sections 3 and 4), at most half the number of pairs (lemma 2), its count is fixed by its
 -- ladder and at most 12 for each pair, and it looks at its own pairs alone.
-use mathlib.Core.Path.{_≡_, refl, sym, ap, _∙_}
-use mathlib.Core.Bool.{Bool, true, false, cond}
+use mathlib.Core.Path.{_≡_, refl, sym, _∙_}
+use mathlib.Core.Bool.{true, false}
 use mathlib.Core.List.{List, [], _∷_}
-use mathlib.Core.Logic.{_⊎_, inl, inr, ⊎-elim}
-use Prim.Native.Nat.{ℕ, zero, suc, _+_, _-_, _*_, _/_, _≤_, _<_}
+use Prim.Native.Nat.{ℕ, _+_, _-_, _*_, _≤_, _<_}
 use native.Mathlib.Decide.{decLe}
 use native.Mathlib.Omega.{arith}
 use borrow.Author.Tests.{lt-ltb, le-ltb}
-use lib.Dec.{ltb}
 use lib.ListN.{length}
 use lib.IntN.{ℤ, _-ℤ_}
-use lib.Signed.{_≤ℤ_, _<ℤ_, ltZ}
 use Rattle.whole.proofs.Arith.{up, down, arithℤ}
 use Rattle.whole.proofs.Order.{true-lt, false-lt}
-use Rattle.wiring.specs.Fit.{Steady, lowEnd, highEnd, Fits, evens, half}
+use Rattle.wiring.specs.Fit.{Steady, Fits, evens, half}
 use Rattle.wiring.proofs.Rule.{fits-above}
 use Rattle.wiring.proofs.Halving.{evens-steady, to-half, from-half}
 use Rattle.jumper.specs.Span.{rangeOf}

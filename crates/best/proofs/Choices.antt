@@ -1,12 +1,11 @@
 -- A level's choice as the code makes it, from a trial r: at 2h-1, at 2h, or past it.
-use mathlib.Core.Path.{_≡_, refl, sym, ap, _∙_}
+use mathlib.Core.Path.{_≡_, refl, ap}
 use mathlib.Core.Bool.{true, false}
 use mathlib.Core.List.{List}
 use Prim.Native.Nat.{ℕ, _+_, _-_, _*_, _≤_, _<_}
 use native.Mathlib.Omega.{arith}
-use lib.ListN.{length}
 use lib.IntN.{ℤ}
-use lib.Signed.{_≤ℤ_, ltZ}
+use lib.Signed.{ltZ}
 use Rattle.whole.proofs.Arith.{up, down, arithℤ}
 use Rattle.whole.proofs.Order.{true-lt, false-lt}
 use Rattle.wiring.specs.Wiring.{pad}

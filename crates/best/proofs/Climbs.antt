@@ -1,23 +1,20 @@
 -- A level as `climb` works it out, over plain lists: x and y with their pairs in front, the halves in hx and hy, the ladder l.
 use mathlib.Core.Path.{_≡_, refl, sym, ap, _∙_}
 use mathlib.Core.List.{List, [], _∷_, _++_}
-use Prim.Native.Nat.{ℕ, zero, suc, _+_, _-_, _*_, _/_, _≤_, _<_}
+use Prim.Native.Nat.{ℕ, suc, _+_, _-_, _*_, _≤_, _<_}
 use native.Mathlib.Omega.{arith}
 use borrow.Rule.Slice.PartMut.{midOf, putMid}
 use lib.ListN.{length, take, drop, length-drop, drop-of-length-le}
 use lib.Seq.{take-all, drop-at, drop-drop, length-take-le}
-use lib.IntN.{ℤ, pos}
-use lib.Signed.{_≤ℤ_}
+use lib.IntN.{ℤ}
 use Rattle.whole.proofs.Arith.{up, down, arithℤ}
 use Rattle.wiring.specs.Wiring.{pad}
 use Rattle.wiring.specs.Fit.{evens, half}
-use Rattle.wiring.proofs.Halving.{evens-steady}
-use Rattle.jumper.specs.Span.{rangeOf}
-use Rattle.best.specs.Halving.{Taken, taken, fromHalf, Halving, levelOver, halving, levels}
-use Rattle.best.specs.Work.{Filled, Halvable, Front, Choosable, IsLevel, Chosen, lowestLevel, Room, Climbable, Climbed}
+use Rattle.best.specs.Halving.{Taken, taken, fromHalf, Halving, halving}
+use Rattle.best.specs.Work.{Filled, Halvable, Choosable, IsLevel, Chosen, lowestLevel, Climbable, Climbed}
 use Rattle.best.specs.declared.level.Level.{Level}
 use Rattle.best.proofs.Levels.{one-pair, more-pairs, more-levels}
-use Rattle.best.proofs.Agree.{Agree, range-agrees, half-agrees, halvable-agrees, halvable-evens, filled-agrees, front-agrees}
+use Rattle.best.proofs.Agree.{range-agrees, half-agrees, halvable-agrees, halvable-evens, filled-agrees, front-agrees}
 use Rattle.best.proofs.Bests.{best-is-best, halving-agrees, count-cheap}
 
 -- a part that reaches to the end is all that follows its start

@@ -1,10 +1,9 @@
 -- The numbers x_i = a_i - i of an accepted row: they fit an i32, never fall, and are far from its ends.
-use mathlib.Core.Path.{_≡_, ap}
+use mathlib.Core.Path.{_≡_}
 use mathlib.Core.List.{List}
-use Prim.Native.Nat.{ℕ, _+_, _≤_, _<_, _^_}
+use Prim.Native.Nat.{ℕ, _≤_, _<_, _^_}
 use native.Mathlib.Omega.{arith}
-use lib.ListN.{length}
-use lib.IntN.{ℤ, pos, _-ℤ_, natAbs}
+use lib.IntN.{ℤ, pos, natAbs}
 use lib.Signed.{mag}
 use mir.Syntax.{w32}
 use mir.Val.{toZ}

@@ -1,15 +1,15 @@
 -- The two equations of the halving, with no number of halvings in them; induction along the levels; and the cases of a level.
-use mathlib.Core.Path.{_≡_, refl, sym, ap, _∙_}
-use mathlib.Core.Bool.{Bool, true, false, cond}
+use mathlib.Core.Path.{_≡_, refl}
+use mathlib.Core.Bool.{Bool, true, false}
 use mathlib.Core.Logic.{⊎-elim}
-use Prim.Native.Nat.{ℕ, zero, suc, _+_, _-_, _*_, _/_, _≤_, _<_}
+use Prim.Native.Nat.{ℕ, zero, suc, _+_, _-_, _*_, _≤_, _<_}
 use native.Mathlib.Nat.{eq-or-lt-of-le}
 use native.Mathlib.Omega.{arith}
 use borrow.Author.Tests.{lt-ltb, le-ltb, ltb-true, ltb-false}
 use lib.Dec.{ltb}
 use lib.IntN.{ℤ, pos}
 use Rattle.wiring.specs.Fit.{evens, half}
-use Rattle.best.specs.Halving.{emptyAt, readAt, Taken, taken, fromEven, fromHalf, Halving, onePair, levelOver, halvingIn, halving, levelsIn, levels}
+use Rattle.best.specs.Halving.{emptyAt, readAt, Taken, taken, fromEven, fromHalf, onePair, levelOver, halvingIn, halving, levelsIn, levels}
 
 -- as many halvings as there are pairs, or more, come to the same
 enough : (f g m : ℕ) (x y : ℕ → ℤ) → m ≤ f + 1 → m ≤ g + 1 → halvingIn f m x y ≡ halvingIn g m x y

@@ -1,21 +1,19 @@
 -- The whole call on accepted rows, over plain lists: lowered, climbed, and the range read.
-use mathlib.Core.Path.{_≡_, refl, sym, ap, _∙_}
-use mathlib.Core.List.{List, _++_}
-use Prim.Native.Nat.{ℕ, _+_, _-_, _*_, _≤_, _<_}
+use mathlib.Core.Path.{_≡_, sym, ap, _∙_}
+use mathlib.Core.List.{List}
+use Prim.Native.Nat.{ℕ, _<_}
 use native.Mathlib.Omega.{arith}
-use lib.ListN.{length, take, drop}
-use lib.IntN.{ℤ, natAbs}
+use lib.ListN.{length}
+use lib.IntN.{ℤ}
 use Rattle.wiring.specs.Wiring.{pad}
-use Rattle.wiring.specs.Fit.{Steady, leanOf, Rising}
+use Rattle.wiring.specs.Fit.{leanOf, Rising}
 use Rattle.wiring.proofs.Rule.{lean-steady}
-use Rattle.jumper.specs.Rows.{AcceptedRow, AcceptedRows}
+use Rattle.jumper.specs.Rows.{AcceptedRows}
 use Rattle.jumper.specs.Span.{rangeOf}
 use Rattle.jumper.specs.declared.range.OffsetRange.{OffsetRange}
-use Rattle.best.specs.Halving.{Halving, taken, halving, levels}
-use Rattle.best.specs.Best.{ladderOf, plannedOf}
-use Rattle.best.specs.Work.{Filled, Halvable, Front, IsLevel, Keeps, Room, Climbable, Climbed, Plannable, IsPlanned}
+use Rattle.best.specs.Halving.{Halving, halving}
+use Rattle.best.specs.Work.{Filled, Halvable, Keeps, Room, Climbable, Climbed, Plannable, IsPlanned}
 use Rattle.best.specs.declared.level.Level.{Level}
-use Rattle.best.specs.declared.plan.Planned.{Planned}
 use Rattle.best.proofs.Lean.{lowered}
 use Rattle.best.proofs.Agree.{Agree, range-agrees, halvable-agrees, filled-agrees, front-agrees}
 use Rattle.best.proofs.Bests.{best-is-best, halving-agrees}

@@ -18,7 +18,6 @@ use Rattle.jumper.specs.declared.refusal.Numbers.{Numbers}
 use Rattle.jumper.specs.declared.refusal.Refusal.the-variants.{Buffer}
 use Rattle.jumper.specs.declared.rows.Checked.{Checked}
 use Rattle.jumper.specs.declared.rows.Checked.the-variants.{Accepted, Refused as RowsRefused}
-use Rattle.jumper.specs.declared.range.OffsetRange.{OffsetRange}
 use Rattle.best.specs.Halving.{Halving, halving, maxReadAPair, ladderCount}
 use Rattle.best.specs.declared.plan.Planned.{Planned}
 use Rattle.best.specs.declared.plan.Best.{Best}

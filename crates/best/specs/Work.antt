@@ -10,7 +10,6 @@ use Rattle.wiring.specs.Fit.{Steady}
 use Rattle.jumper.specs.Limits.{maxPairs}
 use Rattle.jumper.specs.Rows.{AcceptedRows}
 use Rattle.jumper.specs.Span.{rangeOf}
-use Rattle.jumper.specs.declared.range.OffsetRange.{OffsetRange}
 use Rattle.best.specs.Halving.{Taken, taken, readAt, fromEven, fromHalf, halving, levels}
 use Rattle.best.specs.Best.{ladderOf, plannedOf}
 use Rattle.best.specs.declared.plan.Planned.{Planned}

@@ -42,8 +42,9 @@ use Rattle.best.specs.declared.plan.Best.{Best}
 use Rattle.best.specs.declared.plan.Best.the-variants.{Found, Refused as NoBest}
 use Rattle.best.proofs.Levels.{one-level, more-levels}
 use Rattle.best.proofs.Bests.{ladder-length}
-use Rattle.form.specs.Plan.{plannedWith, fitPlan, leastPlan, rangePlan, PlanAnswer}
-use Rattle.form.proofs.Known.{known-fit, known-least, known-range, known-best}
+use Rattle.form.specs.Plan.{plannedWith, fitPlan, leastPlan, rangePlan, planOf, Asks, Meetable, Prevents, PlanAnswer}
+use Rattle.form.proofs.Known.{Known, known-fit, known-least, known-range, known-best}
+use Rattle.form.specs.declared.wish.Wish.{Wish}
 use Rattle.form.specs.declared.wish.Wish.the-variants.{Fit, Least as Leastwise, Range, Best as Bestwise}
 
 -- a least separation there always is: its refusals are those of the checks
@@ -103,6 +104,21 @@ abbrev foundLeast : (s i k : ℕ) → Numbers
 foundLeast s i k = record { refusal = 0; place = 0; second = 0; separation = s; lowest = pos 0; highest = pos 0; pair = i; side = k; count = 0 }
 
 module _ (a b : List ℤ) where
+  -- a refusal: what is asked isn't accepted, or no wiring meets it
+  refused-plan : (w : Wish) (r : Refusal) → refusalNumbers r ≡ planOf w a b → (Asks w a b → Meetable w a b → refusalNumbers r .refusal ≡ 0) → Prevents w a b (refusalNumbers r)
+      → Known a b (refusalNumbers r .refusal) → PlanAnswer w a b (refusalNumbers r)
+  refused-plan w r e none p k =
+      record {
+        answer = e;
+        accepts = ((λ z. absurd (numbered r z)), (λ m. none (m .0) (m .1)));
+        means = λ z. absurd (numbered r z);
+        prevents = p;
+        rows = λ z. absurd (numbered r z);
+        drawable = λ z. absurd (numbered r z);
+        known = k .few;
+        equal = k .equal;
+      }
+
   pub fit-plan : (s : ℕ) (d : ℤ) (c : Checked) → FitAnswer a b s d c → PlanAnswer (Fit s d) a b (fitPlan s d c)
   fit-plan s d Accepted h =
       let w = h .fits .0 refl in
@@ -117,17 +133,8 @@ module _ (a b : List ℤ) where
         equal = λ e z. omega arith;
       }
   fit-plan s d (Refused r) h =
-      let k = rw (← h .answer) at (known-fit a b s d) in
-      record {
-        answer = ap (fitPlan s d) (h .answer);
-        accepts = h .fits;
-        means = λ z. absurd (numbered r z);
-        prevents = λ z. (h .prevents z, h .witness z);
-        rows = λ z. absurd (numbered r z);
-        drawable = λ z. absurd (numbered r z);
-        known = k .few;
-        equal = k .equal;
-      }
+      refused-plan (Fit s d) r (ap (fitPlan s d) (h .answer)) (λ k w. h .fits .1 (k, w)) (λ z. (h .prevents z, h .witness z))
+      (rw (← h .answer) at (known-fit a b s d))
 
   -- a least separation s that was found, with its witness
   least-found : (d : ℤ) (l : Least) (s i k : ℕ) → leastPlan d l ≡ plannedWith s d d i k 0 → leastNumbers l ≡ foundLeast s i k → LeastAnswer a b d l → PlanAnswer (Leastwise d) a b (plannedWith s d d i k 0)
@@ -148,33 +155,15 @@ module _ (a b : List ℤ) where
 
   pub least-plan : (d : ℤ) (l : Least) → LeastAnswer a b d l → PlanAnswer (Leastwise d) a b (leastPlan d l)
   least-plan d (NoLeast r) h =
-      let k = rw (← h .answer) at (known-least a b d) in
-      record {
-        answer = ap (leastPlan d) (h .answer);
-        accepts = ((λ z. absurd (numbered r z)), (λ w. h .accepts .1 (w .0)));
-        means = λ z. absurd (numbered r z);
-        prevents = λ z. least-never a b d r (h .answer) z;
-        rows = λ z. absurd (numbered r z);
-        drawable = λ z. absurd (numbered r z);
-        known = k .few;
-        equal = k .equal;
-      }
+      refused-plan (Leastwise d) r (ap (leastPlan d) (h .answer)) (λ k w. h .accepts .1 k) (least-never a b d r (h .answer))
+      (rw (← h .answer) at (known-least a b d))
   least-plan d Straight h = least-found d Straight 0 0 0 refl refl h
   least-plan d (Tracks s i side) h = least-found d (Tracks s i side) s i (sideNumber side) refl refl h
 
   pub range-plan : (s : ℕ) (q : Offsets) → OffsetsAnswer a b s q → PlanAnswer (Range s) a b (rangePlan s q)
   range-plan s (NoRange r) h =
-      let k = rw (← h .answer) at (known-range a b s) in
-      record {
-        answer = ap (rangePlan s) (h .answer);
-        accepts = ((λ z. absurd (numbered r z)), (λ w. absurd (h .none .0 (range-never a b s r (h .answer) (w .0)) .1 (w .1 .0) (w .1 .1))));
-        means = λ z. absurd (numbered r z);
-        prevents = λ z. h .none .0 z .1;
-        rows = λ z. absurd (numbered r z);
-        drawable = λ z. absurd (numbered r z);
-        known = k .few;
-        equal = k .equal;
-      }
+      refused-plan (Range s) r (ap (rangePlan s) (h .answer)) (λ k w. absurd (h .none .0 (range-never a b s r (h .answer) k) .1 (w .0) (w .1))) (λ z. h .none .0 z .1)
+      (rw (← h .answer) at (known-range a b s))
   range-plan s (Offered r) h =
       record {
         answer = ap (rangePlan s) (h .answer);
@@ -203,17 +192,8 @@ module _ (a b : List ℤ) where
 
   pub best-plan : (before after : List ℕ) (q : Best) → before ≡ replicate maxLadder 0 → BestAnswer a b before after q → PlanAnswer Bestwise a b (bestNumbers q)
   best-plan before after (NoBest r) e h =
-      let k = rw (← h .answer) at (known-best a b before) in
-      record {
-        answer = ap bestNumbers (h .answer) ∙ ap (λ (l : List ℕ). bestNumbers (bestAnswer a b l)) e;
-        accepts = ((λ z. absurd (numbered r z)), (λ w. h .accepts .1 (w .0, rw e (ladder-room a b (w .0)))));
-        means = λ z. absurd (numbered r z);
-        prevents = λ z. best-never a b before r (h .answer) z;
-        rows = λ z. absurd (numbered r z);
-        drawable = λ z. absurd (numbered r z);
-        known = k .few;
-        equal = k .equal;
-      }
+      refused-plan Bestwise r (ap bestNumbers (h .answer) ∙ ap (λ (l : List ℕ). bestNumbers (bestAnswer a b l)) e) (λ k w. h .accepts .1 (k, rw e (ladder-room a b k)))
+      (best-never a b before r (h .answer)) (rw (← h .answer) at (known-best a b before))
   best-plan before after (Found p) e h =
       let k = h .accepts .0 refl .0 in
       let w = h .exactly refl (p .range .low) .1 (record { low = omega arithℤ; high = h .some refl }) in

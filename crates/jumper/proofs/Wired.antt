@@ -1,5 +1,4 @@
 -- Offsets at which accepted rows have a legal wiring.
-use mathlib.Core.Path.{_≡_}
 use mathlib.Core.List.{List}
 use Prim.Native.Nat.{ℕ, _+_, _<_}
 use native.Mathlib.Omega.{arith}

@@ -1,6 +1,6 @@
 -- The measure is the pair count: at each call on an even half there are fewer pairs. What a level comes to is said in Climbs.antt, over plain lists.
-use mathlib.Core.Path.{_≡_, refl, sym, ap, _∙_}
-use Prim.Native.Nat.{_≤_, _-_}
+use mathlib.Core.Path.{_∙_}
+use Prim.Native.Nat.{_-_}
 use native.Mathlib.Omega.{arith}
 use borrow.Author.Needs.{needs}
 use borrow.Rule.Slice.PartMut.{mid-len, take-put, same-len-mid}

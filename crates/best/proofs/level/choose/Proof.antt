@@ -1,14 +1,11 @@
-use mathlib.Core.Path.{_≡_, refl, sym, _∙_}
-use mathlib.Core.Bool.{true, false}
-use Prim.Native.Nat.{_*_, _-_, _<_, _≤_}
+use mathlib.Core.Path.{sym, _∙_}
+use Prim.Native.Nat.{_*_, _-_}
 use native.Mathlib.Nat.{pos-of-ne-zero}
 use native.Mathlib.Omega.{arith}
 use borrow.Author.Needs.{needs}
-use lib.ListN.{length}
-use lib.Signed.{ltZ}
 use Rattle.wiring.specs.Wiring.{pad}
 use Rattle.jumper.proofs.Ranges.{empty-test}
-use Rattle.best.proofs.Levels.{from-none, from-past}
+use Rattle.best.proofs.Levels.{from-none}
 use Rattle.best.proofs.Choices.{open-odd, past-odd, trial-few}
 use Rattle.best.proofs.level.choose.Statement.{statement}
 use Rattle.best.proofs.level.choose.Tie as tie

@@ -1,4 +1,4 @@
-use mathlib.Core.Path.{_≡_, _∙_}
+use mathlib.Core.Path.{_∙_}
 use borrow.Author.Needs.{needs}
 use Rattle.best.proofs.Plans.{climb-plan, keeps-plan, planned}
 use Rattle.best.proofs.plan.halve_in.Statement.{statement}

@@ -4,7 +4,6 @@ use lib.IntN.{_-ℤ_}
 use lib.Signed.{mag}
 use Rattle.whole.proofs.Machine.{back, dif-fits}
 use Rattle.wiring.specs.Wiring.{pad}
-use native.Mathlib.Omega.{arith}
 use Rattle.best.proofs.trial.difference.Statement.{statement}
 use Rattle.best.proofs.trial.difference.Tie as tie
 
