@@ -8,9 +8,7 @@ use borrow.Author.Tests.{lt-ltb, le-ltb}
 use lib.ListN.{length}
 use lib.IntN.{ℤ}
 use Rattle.whole.proofs.Arith.{up, down, arithℤ}
-use Rattle.wiring.specs.Wiring.{pad, HasWiring}
-use Rattle.wiring.specs.Fit.{leanOf, Fits}
-use Rattle.wiring.proofs.Theorem.{fit-exactly}
+use Rattle.wiring.specs.Fit.{leanOf}
 use Rattle.jumper.specs.Refusals.{refusalNumbers}
 use Rattle.jumper.specs.Rows.{AcceptedRows, checkRows}
 use Rattle.jumper.specs.declared.refusal.Refusal.{Refusal}
@@ -19,24 +17,25 @@ use Rattle.jumper.specs.declared.rows.Checked.the-variants.{Accepted, Refused a
 use Rattle.jumper.proofs.Accepted.{numbered, refused-not, rows-of, of-rows}
 use Rattle.jumper.proofs.Checks.{early-rows}
 use Rattle.jumper.proofs.Spans.{range-exactly}
+use Rattle.jumper.proofs.Wired.{wiring-exactly}
 use Rattle.best.specs.Halving.{levels}
-use Rattle.best.specs.Best.{halvingOf, ladderOf, BestAnswer}
+use Rattle.best.specs.Best.{halvingOf, ladderOf, bestAnswer, BestAnswer}
 use Rattle.best.specs.Work.{Plannable, IsPlanned}
 use Rattle.best.specs.declared.plan.Planned.{Planned}
 use Rattle.best.specs.declared.plan.Best.the-variants.{Found, Refused}
-use Rattle.best.proofs.Plans.{top-rises, halvable-lean}
+use Rattle.best.proofs.Plans.{halvable-lean}
 use Rattle.best.proofs.Bests.{BestOf, best-is-best, count-fixed, count-cheap, ladder-length}
 
 module _ (a b : List ℤ) (before : List ℕ) where
-  pub rows-refused : (f : Refusal) → checkRows a b ≡ RowsRefused f → BestAnswer a b before before (Refused f)
-  rows-refused f e =
-      let n : refusalNumbers f .refusal ≤ 5 = rw e at (early-rows a b) in
-      let z : AcceptedRows a b → ⊥ = λ r. refused-not f (sym e ∙ of-rows a b r) in
+  -- a refusal: nothing is said of a separation, and the buffer is as it was
+  best-refused : (f : Refusal) → Refused f ≡ bestAnswer a b before → (AcceptedRows a b → length (ladderOf a b) ≤ length before → ⊥)
+      → (refusalNumbers f .refusal ≡ 9) ↔ (AcceptedRows a b × (length before < length (ladderOf a b))) → BestAnswer a b before before (Refused f)
+  best-refused f e none short =
       record {
-        answer = rw e;
+        answer = e;
         buffer = refl;
-        accepts = ((λ q. absurd (numbered f q)), (λ w. absurd (z (w .0))));
-        short = ((λ q. absurd (omega arith)), (λ w. absurd (z (w .0))));
+        accepts = ((λ q. absurd (numbered f q)), (λ w. absurd (none (w .0) (w .1))));
+        short = short;
         exactly = λ q. absurd (numbered f q);
         some = λ q. absurd (numbered f q);
         none = λ q. absurd (numbered f q);
@@ -46,32 +45,22 @@ module _ (a b : List ℤ) (before : List ℕ) where
         cheap = λ q. absurd (numbered f q);
       }
 
+  pub rows-refused : (f : Refusal) → checkRows a b ≡ RowsRefused f → BestAnswer a b before before (Refused f)
+  rows-refused f e =
+      let n : refusalNumbers f .refusal ≤ 5 = rw e at (early-rows a b) in
+      let z : AcceptedRows a b → ⊥ = λ r. refused-not f (sym e ∙ of-rows a b r) in
+      best-refused f (rw e) (λ r l. z r) ((λ q. absurd (omega arith)), (λ w. absurd (z (w .0))))
+
   module _ (e : checkRows a b ≡ Accepted) where
     rows : AcceptedRows a b
     rows = rows-of a b e
 
     pub buffer-short : length before < length (ladderOf a b) → BestAnswer a b before before (Refused Buffer)
-    buffer-short h =
-        record {
-          answer = rw (e, lt-ltb (length before) (length (ladderOf a b)) h);
-          buffer = refl;
-          accepts = ((λ q. absurd (numbered Buffer q)), (λ w. absurd (omega (arith, w .1))));
-          short = ((λ q. (rows, h)), (λ w. refl));
-          exactly = λ q. absurd (numbered Buffer q);
-          some = λ q. absurd (numbered Buffer q);
-          none = λ q. absurd (numbered Buffer q);
-          within = λ q. absurd (numbered Buffer q);
-          below = λ q. absurd (numbered Buffer q);
-          fixed = λ q. absurd (numbered Buffer q);
-          cheap = λ q. absurd (numbered Buffer q);
-        }
+    buffer-short h = best-refused Buffer (rw (e, lt-ltb (length before) (length (ladderOf a b)) h)) (λ r l. omega arith) ((λ q. (rows, h)), (λ w. refl))
 
     -- demand 3, of the rule's best
     best : BestOf (length a) (leanOf a) (leanOf b) (halvingOf a b .best)
     best = let h = halvable-lean a b rows in best-is-best (length a) (leanOf a) (leanOf b) (h .some) (h .bottom) (h .top)
-
-    wiring-fits : (s : ℕ) (d : ℤ) → HasWiring a b s d ↔ Fits (length a) s (leanOf a) (leanOf b) d
-    wiring-fits s d = fit-exactly (length a) s (pad a) (pad b) d (rows .bottom .rising) (top-rises a b rows)
 
     inside : halvingOf a b .best < length a
     inside = omega (arith, best .within, rows .some)
@@ -87,13 +76,13 @@ module _ (a b : List ℤ) (before : List ℕ) where
           exactly = λ q d.
               let s = halvingOf a b .best in
               let r = range-exactly (length a) (leanOf a) (leanOf b) s inside d in
-              let f = wiring-fits s d in
+              let f = wiring-exactly rows s d in
               ((λ w. let v = r .1 (f .0 w) in record { low = v .low; high = v .high }), (λ v. f .1 (r .0 (record { low = v .low; high = v .high }))));
           some = λ q.
               let d = best .some .0 in
               let v = range-exactly (length a) (leanOf a) (leanOf b) (halvingOf a b .best) inside d .1 (best .some .1) in
               omega (arithℤ, v .low, v .high);
-          none = λ q t l d w. best .none t l d (wiring-fits t d .0 w);
+          none = λ q t l d w. best .none t l d (wiring-exactly rows t d .0 w);
           within = λ q. best .within;
           below = λ q. inside;
           fixed = λ q. count-fixed (length a) (leanOf a) (leanOf b) (rows .some);

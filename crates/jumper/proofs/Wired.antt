@@ -1,5 +1,6 @@
 -- Offsets at which accepted rows have a legal wiring.
 use mathlib.Core.List.{List}
+use mathlib.Core.Logic.{_↔_}
 use Prim.Native.Nat.{ℕ, _+_, _<_}
 use native.Mathlib.Omega.{arith}
 use lib.ListN.{length}
@@ -7,11 +8,15 @@ use lib.IntN.{ℤ, pos}
 use lib.Signed.{_≤ℤ_}
 use Rattle.whole.proofs.Arith.{up, down, arithℤ, dif, sum}
 use Rattle.wiring.specs.Wiring.{HasWiring, pad}
-use Rattle.wiring.specs.Fit.{leanOf}
+use Rattle.wiring.specs.Fit.{leanOf, Fits}
 use Rattle.wiring.proofs.Rule.{spread}
 use Rattle.wiring.proofs.Theorem.{fit-exactly}
 use Rattle.jumper.specs.Limits.{lastColumn, AcceptedOffset}
 use Rattle.jumper.specs.Rows.{AcceptedRow, AcceptedRows}
+
+-- the theorem of fit, of accepted rows
+pub wiring-exactly : {a b : List ℤ} → AcceptedRows a b → (s : ℕ) (d : ℤ) → HasWiring a b s d ↔ Fits (length a) s (leanOf a) (leanOf b) d
+wiring-exactly {a} {b} r s d = fit-exactly (length a) s (pad a) (pad b) d (r .bottom .rising) (rw (r .equal) (r .top .rising))
 
 -- an accepted row leans from 0 to the last column
 lean-low : {a : List ℤ} → AcceptedRow a → (k : ℕ) → k < length a → pos 0 ≤ℤ leanOf a k
@@ -23,7 +28,7 @@ lean-high {a} h k l = omega (arithℤ, dif (pad a k) (pos k), h .columns k l .hi
 -- below the number of pairs, every whole-number offset at which a legal wiring exists is an accepted one
 pub wired-accepted : {a b : List ℤ} → AcceptedRows a b → (s : ℕ) (d : ℤ) → s < length a → HasWiring a b s d → AcceptedOffset d
 wired-accepted {a} {b} h s d l w =
-    let f = fit-exactly (length a) s (pad a) (pad b) d (h .bottom .rising) (rw (h .equal) (h .top .rising)) .0 w in
+    let f = wiring-exactly h s d .0 w in
     let x = leanOf a in
     let y = leanOf b in
     let e = h .equal in
