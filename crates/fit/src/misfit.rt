@@ -47,7 +47,7 @@ pub(crate) fn misfit_from(a: &[i32], b: &[i32], s: usize, d: i32, from: usize) -
 {
     let n = a.len();
     let mut i: usize = from;
-    while i + s < n {
+    while i + s + 1 <= n {
         if too_right(a, b, s, d, i) {
             return Misfit::At(i, Side::Right);
         }
