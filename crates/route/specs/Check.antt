@@ -9,7 +9,7 @@ use mathlib.Core.List.{List}
 use mathlib.Core.Logic.{_⊎_, _≢_, _↔_}
 use Prim.Native.Nat.{ℕ, zero, suc, _+_, _*_, _≤_, _<_}
 use lib.Dec.{eqb, ltb}
-use lib.ListN.{length}
+use lib.ListN.{length, take}
 use lib.IntN.{ℤ}
 use lib.Signed.{_≤ℤ_, _<ℤ_, ltZ, leZ}
 use Rattle.whole.specs.Pick.{largerOf, smallerOf}
@@ -105,6 +105,8 @@ routeChecked a b s d table = orElse (checkAsked a b s d) (orElse (noRoom (length
 -- for the other tables that can be read, names the wire and the track of the first fault.
 pub record RouteCheck (a b : List ℤ) (s : ℕ) (d : ℤ) (table : List ℤ) (r : Checked) : Type 0 where
   pub answer : r ≡ routeChecked a b s d table
+  -- "reads its first n(s + 1) places": a table that is the same there gets the same answer
+  pub reads : (other : List ℤ) → take (length a * (s + 1)) other ≡ take (length a * (s + 1)) table → r ≡ routeChecked a b s d other
   pub accepts : (checkedNumbers r .refusal ≡ 0) ↔ (Asked a b s d × (length a * (s + 1) ≤ length table) × LegalRoute a b s d table)
   pub refuses : (checkedNumbers r .refusal ≡ 16) ↔ (Asked a b s d × (length a * (s + 1) ≤ length table) × (LegalRoute a b s d table → ⊥))
   pub fault : checkedNumbers r .refusal ≡ 16 → FirstFault (length a) s (pad a) (topPad b d) (columnIn table s) (checkedNumbers r .place) (checkedNumbers r .second)
