@@ -27,7 +27,7 @@ use Rattle.jumper.specs.declared.rows.Checked.{Checked}
 use Rattle.jumper.specs.declared.rows.Checked.the-variants.{Accepted, Refused}
 use Rattle.jumper.proofs.Accepted.{numbered, refused-not}
 use Rattle.jumper.proofs.Checks.{accepted-asked, asked-accepted, early-asked}
-use Rattle.fit.specs.Misfit.{tooRight, tooLeft, pickMisfit, misfitFrom, misfitOf, refusing, fitOf, Witness, FitAnswer}
+use Rattle.fit.specs.Misfit.{tooRight, tooLeft, pickMisfit, misfitFrom, misfitOf, noFit, fitOf, Witness, FitAnswer}
 use Rattle.fit.specs.declared.misfit.Misfit.{Misfit}
 use Rattle.fit.specs.declared.misfit.Misfit.the-variants.{None, At}
 
@@ -125,7 +125,7 @@ pub wiring-exactly : {a b : List ℤ} → AcceptedRows a b → (s : ℕ) (d : �
 wiring-exactly {a} {b} r s d = fit-exactly (length a) s (pad a) (pad b) d (r .bottom .rising) (rw (r .equal) (r .top .rising))
 
 -- WHAT `fit` PROMISES, from its answer
-by-misfit : (a b : List ℤ) (s : ℕ) (d : ℤ) → Asked a b s d → (m : Misfit) → misfitOf a b s d ≡ m → FitAnswer a b s d (refusing m)
+by-misfit : (a b : List ℤ) (s : ℕ) (d : ℤ) → Asked a b s d → (m : Misfit) → misfitOf a b s d ≡ m → FitAnswer a b s d (noFit m)
 by-misfit a b s d k None e =
     record {
       answer = sym (rw (asked-accepted a b s d k, e));
@@ -156,5 +156,5 @@ fit-refused a b s d r e =
       witness = λ z. absurd (omega arith);
     }
 
-pub fit-found : (a b : List ℤ) (s : ℕ) (d : ℤ) (m : Misfit) → checkAsked a b s d ≡ Accepted → m ≡ misfitOf a b s d → FitAnswer a b s d (refusing m)
+pub fit-found : (a b : List ℤ) (s : ℕ) (d : ℤ) (m : Misfit) → checkAsked a b s d ≡ Accepted → m ≡ misfitOf a b s d → FitAnswer a b s d (noFit m)
 fit-found a b s d m e f = by-misfit a b s d (accepted-asked a b s d e) m (sym f)

@@ -38,17 +38,17 @@ leastOf x y d zero = zero
 leastOf x y d (suc n) = cond (breaksAt x y (leastOf x y d n) d (n - leastOf x y d n)) (suc (leastOf x y d n)) (leastOf x y d n)
 
 -- a separation above 0 with the witness at one track fewer, which is always there
-abbrev pub shown : ℕ → Misfit → Least
-shown zero m = Straight
-shown (suc s) None = Straight
-shown (suc s) (At i k) = Tracks (suc s) i k
+abbrev pub withWitness : ℕ → Misfit → Least
+withWitness zero m = Straight
+withWitness (suc s) None = Straight
+withWitness (suc s) (At i k) = Tracks (suc s) i k
 
 abbrev pub unlessRefused : Checked → Least → Least
 unlessRefused Accepted l = l
 unlessRefused (Refused r) l = NoLeast r
 
 abbrev pub leastAnswer : (a b : List ℤ) (d : ℤ) → Least
-leastAnswer a b d = unlessRefused (checkOffset a b d) (shown (leastOf (leanOf a) (leanOf b) d (length a)) (misfitOf a b (leastOf (leanOf a) (leanOf b) d (length a) - 1) d))
+leastAnswer a b d = unlessRefused (checkOffset a b d) (withWitness (leastOf (leanOf a) (leanOf b) d (length a)) (misfitOf a b (leastOf (leanOf a) (leanOf b) d (length a) - 1) d))
 
 -- What `least_at` promises: "the least s that fits, at most n. For s > 0 the answer also shows the witness at s - 1."
 pub record LeastAnswer (a b : List ℤ) (d : ℤ) (r : Least) : Type 0 where

@@ -18,8 +18,8 @@ use Rattle.jumper.specs.Span.{rangeOf}
 use Rattle.jumper.specs.declared.refusal.Refusal.the-variants.{Unequal, Empty, Long, Column, Order, Tracks as NoTracks, Offset}
 use Rattle.jumper.specs.declared.rows.Checked.{Checked}
 use Rattle.jumper.specs.declared.rows.Checked.the-variants.{Accepted, Refused}
-use Rattle.fit.specs.Misfit.{misfitOf, refusing, fitOf}
-use Rattle.fit.specs.Least.{leastNumbers, leastOf, shown, unlessRefused, leastAnswer}
+use Rattle.fit.specs.Misfit.{misfitOf, noFit, fitOf}
+use Rattle.fit.specs.Least.{leastNumbers, leastOf, withWitness, unlessRefused, leastAnswer}
 use Rattle.fit.specs.Offsets.{offsetsNumbers, pickOffsets, rangeFound, offsetsAnswer}
 use Rattle.fit.specs.Offsets.{unlessRefused as unlessNone}
 use Rattle.fit.specs.declared.misfit.Misfit.{Misfit}
@@ -75,18 +75,18 @@ module _ (a b : List ℤ) where
   told-tracks : (s : ℕ) → Told (checkTracks a b s)
   told-tracks s = told-or (checkRows a b) (tracksFault s) told-rows (told-pick (ltb maxTracks s) (Refused NoTracks) Accepted (λ t. record { few = omega arith; equal = λ e z. omega arith }) (λ t. fine))
 
-  told-misfit : (m : Misfit) → Told (refusing m)
+  told-misfit : (m : Misfit) → Told (noFit m)
   told-misfit None = fine
   told-misfit (At i k) = record { few = omega arith; equal = λ e z. omega arith }
 
   pub known-fit : (s : ℕ) (d : ℤ) → Known a b (checkedNumbers (fitOf a b s d) .refusal)
-  known-fit s d = told-or (checkAsked a b s d) (refusing (misfitOf a b s d)) (told-or (checkTracks a b s) (offsetFault d) (told-tracks s) (told-offset d)) (told-misfit (misfitOf a b s d))
+  known-fit s d = told-or (checkAsked a b s d) (noFit (misfitOf a b s d)) (told-or (checkTracks a b s) (offsetFault d) (told-tracks s) (told-offset d)) (told-misfit (misfitOf a b s d))
 
   known-unless : (c : Checked) (l : Least) → Told c → Known a b (leastNumbers l .refusal) → Known a b (leastNumbers (unlessRefused c l) .refusal)
   known-unless Accepted l h k = k
   known-unless (Refused r) l h k = h
 
-  known-shown : (s : ℕ) (m : Misfit) → Known a b (leastNumbers (shown s m) .refusal)
+  known-shown : (s : ℕ) (m : Misfit) → Known a b (leastNumbers (withWitness s m) .refusal)
   known-shown zero m = fine
   known-shown (suc s) None = fine
   known-shown (suc s) (At i k) = fine
@@ -94,7 +94,7 @@ module _ (a b : List ℤ) where
   pub known-least : (d : ℤ) → Known a b (leastNumbers (leastAnswer a b d) .refusal)
   known-least d =
       let s = leastOf (leanOf a) (leanOf b) d (length a) in
-      known-unless (checkOffset a b d) (shown s (misfitOf a b (s - 1) d)) (told-or (checkRows a b) (offsetFault d) told-rows (told-offset d)) (known-shown s (misfitOf a b (s - 1) d))
+      known-unless (checkOffset a b d) (withWitness s (misfitOf a b (s - 1) d)) (told-or (checkRows a b) (offsetFault d) told-rows (told-offset d)) (known-shown s (misfitOf a b (s - 1) d))
 
   known-none : (c : Checked) (q : Offsets) → Told c → Known a b (offsetsNumbers q .refusal) → Known a b (offsetsNumbers (unlessNone c q) .refusal)
   known-none Accepted q h k = k

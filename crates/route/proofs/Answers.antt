@@ -11,7 +11,7 @@ use lib.Seq.{take-at}
 use lib.IntN.{ℤ}
 use Rattle.wiring.specs.Wiring.{at, Legal, pad, topPad, HasWiring}
 use Rattle.wiring.specs.Fit.{Rising}
-use Rattle.wiring.specs.Table.{climb, wireOf, LegalTable}
+use Rattle.wiring.specs.Table.{upFrom, wireOf, LegalTable}
 use Rattle.wiring.proofs.Theorem.{shifted-rising, drawing-legal}
 use Rattle.jumper.specs.Rows.{AcceptedRows, checkedNumbers}
 use Rattle.jumper.specs.Asked.{checkAsked, Asked}
@@ -32,14 +32,14 @@ use Rattle.route.proofs.Legal.{faultless-legal}
 use Rattle.route.proofs.Reading.{reads-only}
 
 -- THE SAME COLUMNS mean the same wire
-climb-same : (e f : ℕ → ℤ) (t m s : ℕ) → t + m ≡ s → ((u : ℕ) → u ≤ s → e u ≡ f u) → climb e t m ≡ climb f t m
-unfolding climb
-climb-same e f t zero s h g = refl
-climb-same e f t (suc m) s h g = rw (g t (omega arith), g (suc t) (omega arith), climb-same e f (suc t) m s (omega arith) g)
+up-same : (e f : ℕ → ℤ) (t m s : ℕ) → t + m ≡ s → ((u : ℕ) → u ≤ s → e u ≡ f u) → upFrom e t m ≡ upFrom f t m
+unfolding upFrom
+up-same e f t zero s h g = refl
+up-same e f t (suc m) s h g = rw (g t (omega arith), g (suc t) (omega arith), up-same e f (suc t) m s (omega arith) g)
 
 pub wire-same : (e f : ℕ → ℤ) (s : ℕ) → ((t : ℕ) → t ≤ s → e t ≡ f t) → wireOf e s ≡ wireOf f s
 unfolding wireOf
-wire-same e f s g = rw (g 0 (omega arith), climb-same e f 0 s s (omega arith) g)
+wire-same e f s g = rw (g 0 (omega arith), up-same e f 0 s s (omega arith) g)
 
 pub legal-same : (n s : ℕ) (a c : ℕ → ℤ) (e f : ℕ → ℕ → ℤ) → ((i t : ℕ) → i < n → t ≤ s → e i t ≡ f i t) → LegalTable n s a c e → LegalTable n s a c f
 legal-same n s a c e f g l =

@@ -22,7 +22,7 @@ use Rattle.jumper.specs.declared.refusal.Refusal.{Refusal}
 use Rattle.jumper.specs.declared.refusal.Refusal.the-variants.{BadWire}
 use Rattle.jumper.specs.declared.rows.Checked.{Checked}
 use Rattle.jumper.specs.declared.rows.Checked.the-variants.{Accepted, Refused}
-use Rattle.route.specs.Check.{highest, lowest, WrongStart, WrongEnd, Touching, Fault, NoFault, FirstFault, differ, startWrong, endWrong, runTouches, faultAt, wireFault, trackFault}
+use Rattle.route.specs.Check.{rightmost, leftmost, WrongStart, WrongEnd, Touching, Fault, NoFault, FirstFault, differ, startWrong, endWrong, runTouches, faultAt, wireFault, trackFault}
 
 -- WHAT A TEST TELLS
 pub record Tells (t : Bool) (P : Type 0) : Type 0 where
@@ -66,7 +66,7 @@ end-tells s c e t i = also (eqb t s) (equal-tells t s) (differ-tells (e i s) (c 
 run-tells : (n s : ℕ) (e : ℕ → ℕ → ℤ) (t i : ℕ) → Tells (runTouches n s e t i) (Touching n s e t i)
 unfolding runTouches
 run-tells n s e t i =
-    let r = also (ltb t s) (less-tells t s) (also (ltb (suc i) n) (less-tells (suc i) n) (below-tells (lowest e (suc i) t) (highest e i t))) in
+    let r = also (ltb t s) (less-tells t s) (also (ltb (suc i) n) (less-tells (suc i) n) (below-tells (leftmost e (suc i) t) (rightmost e i t))) in
     record {
       yes = λ h. let f = r .yes h in record { track = f .0; wire = f .1 .0; touches = f .1 .1 };
       no = λ h f. r .no h (f .track, (f .wire, f .touches));
@@ -109,7 +109,7 @@ module _ (n s : ℕ) (a c : ℕ → ℤ) (e : ℕ → ℕ → ℤ) (t i : ℕ) w
   unfolding endWrong
   end-off h = rw (ne-eqb t s h)
 
-  pub touches-here : t < s → i + 1 < n → runTouches n s e t i ≡ leZ (lowest e (i + 1) t) (highest e i t)
+  pub touches-here : t < s → i + 1 < n → runTouches n s e t i ≡ leZ (leftmost e (i + 1) t) (rightmost e i t)
   unfolding runTouches
   touches-here h l = rw (lt-ltb t s h, lt-ltb (suc i) n (omega arith), add-one)
 

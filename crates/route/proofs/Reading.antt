@@ -39,15 +39,15 @@ module _ (n s : ℕ) (a c : ℕ → ℤ) (e f : ℕ → ℕ → ℤ) (same : (i 
   fault-same t i l = rw (same i 0 l (omega arith), same i s l (omega arith), touches-same t i l)
 
 -- the same tests find the same fault
-wire-same : (p q : ℕ → Bool) (t i k : ℕ) → ((j : ℕ) → j < i + k → p j ≡ q j) → wireFault p t i k ≡ wireFault q t i k
+wire-fault-same : (p q : ℕ → Bool) (t i k : ℕ) → ((j : ℕ) → j < i + k → p j ≡ q j) → wireFault p t i k ≡ wireFault q t i k
 unfolding wireFault
-wire-same p q t i zero h = refl
-wire-same p q t i (suc k) h = rw (h i (omega arith), wire-same p q t (suc i) k (λ j l. h j (omega arith)))
+wire-fault-same p q t i zero h = refl
+wire-fault-same p q t i (suc k) h = rw (h i (omega arith), wire-fault-same p q t (suc i) k (λ j l. h j (omega arith)))
 
-track-same : (p q : ℕ → ℕ → Bool) (n t k : ℕ) → ((u j : ℕ) → j < n → p u j ≡ q u j) → trackFault p n t k ≡ trackFault q n t k
+track-fault-same : (p q : ℕ → ℕ → Bool) (n t k : ℕ) → ((u j : ℕ) → j < n → p u j ≡ q u j) → trackFault p n t k ≡ trackFault q n t k
 unfolding trackFault
-track-same p q n t zero h = refl
-track-same p q n t (suc k) h = rw (wire-same (p t) (q t) t 0 n (λ j l. h t j (omega arith)), track-same p q n (suc t) k h)
+track-fault-same p q n t zero h = refl
+track-fault-same p q n t (suc k) h = rw (wire-fault-same (p t) (q t) t 0 n (λ j l. h t j (omega arith)), track-fault-same p q n (suc t) k h)
 
 module _ (a b : List ℤ) (s : ℕ) (d : ℤ) (table other : List ℤ) (agree : take (length a * (s + 1)) other ≡ take (length a * (s + 1)) table) where
   columns-agree : (i t : ℕ) → i < length a → t ≤ s → columnIn table s i t ≡ columnIn other s i t
@@ -71,5 +71,5 @@ module _ (a b : List ℤ) (s : ℕ) (d : ℤ) (table other : List ℤ) (agree : 
 
   pub reads-only : routeChecked a b s d table ≡ routeChecked a b s d other
   reads-only =
-      let f = track-same (faultAt (length a) s (pad a) (topPad b d) (columnIn table s)) (faultAt (length a) s (pad a) (topPad b d) (columnIn other s)) (length a) 0 (s + 1) (λ t i l. fault-same (length a) s (pad a) (topPad b d) (columnIn table s) (columnIn other s) columns-agree t i l) in
+      let f = track-fault-same (faultAt (length a) s (pad a) (topPad b d) (columnIn table s)) (faultAt (length a) s (pad a) (topPad b d) (columnIn other s)) (length a) 0 (s + 1) (λ t i l. fault-same (length a) s (pad a) (topPad b d) (columnIn table s) (columnIn other s) columns-agree t i l) in
       rw (room-same, f)

@@ -21,12 +21,12 @@ use Rattle.jumper.specs.declared.rows.Checked.{Checked}
 use Rattle.jumper.specs.declared.rows.Checked.the-variants.{Accepted, Refused}
 use Rattle.route.specs.Table.{columnIn, noRoom, LegalRoute}
 
--- the highest and the lowest column of wire i's run on track t < s
-abbrev pub highest : (ℕ → ℕ → ℤ) → ℕ → ℕ → ℤ
-highest e i t = largerOf (e i t) (e i (suc t))
+-- the rightmost and the leftmost column of wire i's run on track t < s: 01's highest and lowest
+abbrev pub rightmost : (ℕ → ℕ → ℤ) → ℕ → ℕ → ℤ
+rightmost e i t = largerOf (e i t) (e i (suc t))
 
-abbrev pub lowest : (ℕ → ℕ → ℤ) → ℕ → ℕ → ℤ
-lowest e i t = smallerOf (e i t) (e i (suc t))
+abbrev pub leftmost : (ℕ → ℕ → ℤ) → ℕ → ℕ → ℤ
+leftmost e i t = smallerOf (e i t) (e i (suc t))
 
 -- "wrong start on track 0"
 abbrev pub WrongStart : (a : ℕ → ℤ) (e : ℕ → ℕ → ℤ) (t i : ℕ) → Type 0
@@ -40,7 +40,7 @@ WrongEnd s c e t i = (t ≡ s) × (e i s ≢ c i)
 pub record Touching (n s : ℕ) (e : ℕ → ℕ → ℤ) (t i : ℕ) : Type 0 where
   pub track : t < s
   pub wire : suc i < n
-  pub touches : lowest e (suc i) t ≤ℤ highest e i t
+  pub touches : leftmost e (suc i) t ≤ℤ rightmost e i t
 
 -- a fault at wire i on track t, with its kind
 abbrev pub Fault : (n s : ℕ) (a c : ℕ → ℤ) (e : ℕ → ℕ → ℤ) (t i : ℕ) → Type 0
@@ -76,7 +76,7 @@ unfoldable pub endWrong : (s : ℕ) (c : ℕ → ℤ) (e : ℕ → ℕ → ℤ) 
 endWrong s c e t i = cond (eqb t s) (differ (e i s) (c i)) false
 
 unfoldable pub runTouches : (n s : ℕ) (e : ℕ → ℕ → ℤ) (t i : ℕ) → Bool
-runTouches n s e t i = cond (ltb t s) (cond (ltb (suc i) n) (leZ (lowest e (suc i) t) (highest e i t)) false) false
+runTouches n s e t i = cond (ltb t s) (cond (ltb (suc i) n) (leZ (leftmost e (suc i) t) (rightmost e i t)) false) false
 
 unfoldable pub faultAt : (n s : ℕ) (a c : ℕ → ℤ) (e : ℕ → ℕ → ℤ) (t i : ℕ) → Bool
 faultAt n s a c e t i = cond (startWrong a e t i) true (cond (endWrong s c e t i) true (runTouches n s e t i))

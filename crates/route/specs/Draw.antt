@@ -14,7 +14,7 @@ use Rattle.jumper.specs.Asked.{checkAsked, Asked}
 use Rattle.jumper.specs.declared.refusal.Refusal.the-variants.{Wire}
 use Rattle.jumper.specs.declared.rows.Checked.{Checked}
 use Rattle.jumper.specs.declared.rows.Checked.the-variants.{Accepted, Refused}
-use Rattle.fit.specs.Misfit.{misfitOf, refusing, Witness}
+use Rattle.fit.specs.Misfit.{misfitOf, noFit, Witness}
 use Rattle.route.specs.Table.{columnIn, columns, wires, noRoom, LegalRoute}
 
 -- the columns that 01 gives wire i, and the wires that they mean
@@ -42,10 +42,10 @@ noWire n wire = pick (ltb wire n) Accepted (Refused Wire)
 
 -- the refusals in 01's order, for a buffer of `room` places
 abbrev pub wireRefusal : (a b : List ℤ) (s : ℕ) (d : ℤ) (wire room : ℕ) → Checked
-wireRefusal a b s d wire room = orElse (checkAsked a b s d) (orElse (noWire (length a) wire) (orElse (noRoom (s + 1) room) (refusing (misfitOf a b s d))))
+wireRefusal a b s d wire room = orElse (checkAsked a b s d) (orElse (noWire (length a) wire) (orElse (noRoom (s + 1) room) (noFit (misfitOf a b s d))))
 
 abbrev pub allRefusal : (a b : List ℤ) (s : ℕ) (d : ℤ) (room : ℕ) → Checked
-allRefusal a b s d room = orElse (checkAsked a b s d) (orElse (noRoom (length a * (s + 1)) room) (refusing (misfitOf a b s d)))
+allRefusal a b s d room = orElse (checkAsked a b s d) (orElse (noRoom (length a * (s + 1)) room) (noFit (misfitOf a b s d)))
 
 -- What `draw_wire` promises of a buffer `out` and what it holds after the call, `out′`: the wire that its places mean is wire `wire` of a legal wiring.
 pub record DrawWireAnswer (a b : List ℤ) (s : ℕ) (d : ℤ) (wire : ℕ) (out out′ : List ℤ) (r : Checked) : Type 0 where
