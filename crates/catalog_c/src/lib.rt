@@ -8,7 +8,7 @@ ghost use Rattle.fit.specs.Stretch.{StretchPlace};
 ghost use Rattle.fit.specs.Least.{leastNumbers, leastAnswer};
 ghost use Rattle.fit.specs.Offsets.{offsetsNumbers, offsetsAnswer};
 ghost use Rattle.best.specs.Best.{bestNumbers, bestAnswer, ladderBy, ladderOf};
-ghost use Rattle.route.specs.Draw.{wireRefusal, allRefusal, unlessRefused, wireDrawn, allDrawn};
+ghost use Rattle.route.specs.Draw.{wireRefusal, allRefusal, bufferAfter, wireDrawn, allDrawn};
 ghost use Rattle.form.specs.Line.{LineAnswer};
 ghost use Rattle.route.specs.Check.{routeChecked};
 use fit::stretch::Place;
@@ -75,7 +75,7 @@ pub extern "C" fn obrastyn_draw_wire(
     out: &mut [i32],
 ) -> Numbers
     ensures answer { λ r. ⌜ r ≡ checkedNumbers (wireRefusal (now (a .entry)) (now (b .entry)) s d wire (length (now (out .entry)))) ⌝ }
-    ensures buffer { λ r. ⌜ now (out .exit) ≡ unlessRefused (wireRefusal (now (a .entry)) (now (b .entry)) s d wire (length (now (out .entry)))) (wireDrawn (now (a .entry)) (now (b .entry)) s d wire (now (out .entry))) (now (out .entry)) ⌝ }
+    ensures buffer { λ r. ⌜ now (out .exit) ≡ bufferAfter (wireRefusal (now (a .entry)) (now (b .entry)) s d wire (length (now (out .entry)))) (wireDrawn (now (a .entry)) (now (b .entry)) s d wire (now (out .entry))) (now (out .entry)) ⌝ }
 {
     route::drawing::draw_wire(a, b, s, d, wire, out).numbers()
 }
@@ -90,7 +90,7 @@ pub extern "C" fn obrastyn_draw_all(
     out: &mut [i32],
 ) -> Numbers
     ensures answer { λ r. ⌜ r ≡ checkedNumbers (allRefusal (now (a .entry)) (now (b .entry)) s d (length (now (out .entry)))) ⌝ }
-    ensures buffer { λ r. ⌜ now (out .exit) ≡ unlessRefused (allRefusal (now (a .entry)) (now (b .entry)) s d (length (now (out .entry)))) (allDrawn (now (a .entry)) (now (b .entry)) s d (now (out .entry))) (now (out .entry)) ⌝ }
+    ensures buffer { λ r. ⌜ now (out .exit) ≡ bufferAfter (allRefusal (now (a .entry)) (now (b .entry)) s d (length (now (out .entry)))) (allDrawn (now (a .entry)) (now (b .entry)) s d (now (out .entry))) (now (out .entry)) ⌝ }
 {
     route::drawing::draw_all(a, b, s, d, out).numbers()
 }

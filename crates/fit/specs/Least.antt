@@ -9,6 +9,7 @@ use lib.IntN.{ℤ, pos}
 use Rattle.wiring.specs.Wiring.{HasWiring}
 use Rattle.wiring.specs.Fit.{leanOf}
 use Rattle.jumper.specs.Refusals.{sideNumber, refusalNumbers, nothing}
+use Rattle.jumper.specs.Rows.{unlessRefused}
 use Rattle.jumper.specs.Asked.{checkOffset, AcceptedShift}
 use Rattle.jumper.specs.declared.refusal.Numbers.{Numbers}
 use Rattle.jumper.specs.declared.refusal.Side.{Side}
@@ -43,12 +44,8 @@ withWitness zero m = Straight
 withWitness (suc s) None = Straight
 withWitness (suc s) (At i k) = Tracks (suc s) i k
 
-abbrev pub unlessRefused : Checked → Least → Least
-unlessRefused Accepted l = l
-unlessRefused (Refused r) l = NoLeast r
-
 abbrev pub leastAnswer : (a b : List ℤ) (d : ℤ) → Least
-leastAnswer a b d = unlessRefused (checkOffset a b d) (withWitness (leastOf (leanOf a) (leanOf b) d (length a)) (misfitOf a b (leastOf (leanOf a) (leanOf b) d (length a) - 1) d))
+leastAnswer a b d = unlessRefused (checkOffset a b d) NoLeast (withWitness (leastOf (leanOf a) (leanOf b) d (length a)) (misfitOf a b (leastOf (leanOf a) (leanOf b) d (length a) - 1) d))
 
 -- What `least_at` promises: "the least s that fits, at most n. For s > 0 the answer also shows the witness at s - 1."
 pub record LeastAnswer (a b : List ℤ) (d : ℤ) (r : Least) : Type 0 where

@@ -12,6 +12,7 @@ use Rattle.whole.specs.Pick.{largest, smallest}
 use Rattle.wiring.specs.Wiring.{pad, HasWiring}
 use Rattle.wiring.specs.Fit.{leanOf, lowEnd, highEnd}
 use Rattle.jumper.specs.Refusals.{refusalNumbers}
+use Rattle.jumper.specs.Rows.{unlessRefused}
 use Rattle.jumper.specs.Asked.{checkTracks, AcceptedTracks}
 use Rattle.jumper.specs.Range.{Within, rangeNamed, wholeRange}
 use Rattle.jumper.specs.Span.{lowestAt, highestAt, rangeOf}
@@ -49,12 +50,8 @@ rangeFound n x y s =
     (pickOffsets (ltZ (rangeOf n x y s .high) (rangeOf n x y s .low)) (NoRange (NoOffset (lowestAt n x y s) (highestAt n x y s))) (Range (rangeOf n x y s)))
     (Range wholeRange)
 
-abbrev pub unlessRefused : Checked → Offsets → Offsets
-unlessRefused Accepted q = q
-unlessRefused (Refused r) q = NoRange r
-
 abbrev pub offsetsAnswer : (a b : List ℤ) (s : ℕ) → Offsets
-offsetsAnswer a b s = unlessRefused (checkTracks a b s) (rangeFound (length a) (leanOf a) (leanOf b) s)
+offsetsAnswer a b s = unlessRefused (checkTracks a b s) NoRange (rangeFound (length a) (leanOf a) (leanOf b) s)
 
 -- pair i is the first that sets the low end, and the first that sets the high end
 pub record FirstLow (a b : List ℤ) (s i : ℕ) : Type 0 where

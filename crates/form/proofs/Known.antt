@@ -12,20 +12,21 @@ use lib.Signed.{ltZ, leZ}
 use Rattle.whole.proofs.Order.{untrue}
 use Rattle.wiring.specs.Fit.{leanOf}
 use Rattle.jumper.specs.Limits.{maxPairs, maxTracks, firstColumn, lastColumn, lowestOffset, highestOffset}
-use Rattle.jumper.specs.Rows.{checkedNumbers, pick, orElse, faultAfter, rowFault, checkRows}
+use Rattle.jumper.specs.Rows.{checkedNumbers, pick, unlessRefused, orElse, faultAfter, rowFault, checkRows}
 use Rattle.jumper.specs.Asked.{tracksFault, offsetFault, checkTracks, checkOffset, checkAsked}
 use Rattle.jumper.specs.Span.{rangeOf}
 use Rattle.jumper.specs.declared.refusal.Refusal.the-variants.{Unequal, Empty, Long, Column, Order, Tracks as NoTracks, Offset}
 use Rattle.jumper.specs.declared.rows.Checked.{Checked}
 use Rattle.jumper.specs.declared.rows.Checked.the-variants.{Accepted, Refused}
 use Rattle.fit.specs.Misfit.{misfitOf, noFit, fitOf}
-use Rattle.fit.specs.Least.{leastNumbers, leastOf, withWitness, unlessRefused, leastAnswer}
+use Rattle.fit.specs.Least.{leastNumbers, leastOf, withWitness, leastAnswer}
 use Rattle.fit.specs.Offsets.{offsetsNumbers, pickOffsets, rangeFound, offsetsAnswer}
-use Rattle.fit.specs.Offsets.{unlessRefused as unlessNone}
 use Rattle.fit.specs.declared.misfit.Misfit.{Misfit}
 use Rattle.fit.specs.declared.misfit.Misfit.the-variants.{None, At}
 use Rattle.fit.specs.declared.least.Least.{Least}
+use Rattle.fit.specs.declared.least.Least.the-variants.{Refused as NoLeast}
 use Rattle.fit.specs.declared.offsets.Offsets.{Offsets}
+use Rattle.fit.specs.declared.offsets.Offsets.the-variants.{Refused as NoRange}
 use Rattle.best.specs.Best.{bestNumbers, plannedOf, ladderOf, roomOr, bestAnswer}
 use Rattle.best.specs.Best.{unlessRefused as unlessRows}
 use Rattle.best.specs.declared.plan.Planned.{Planned}
@@ -82,7 +83,7 @@ module _ (a b : List ℤ) where
   pub known-fit : (s : ℕ) (d : ℤ) → Known a b (checkedNumbers (fitOf a b s d) .refusal)
   known-fit s d = told-or (checkAsked a b s d) (noFit (misfitOf a b s d)) (told-or (checkTracks a b s) (offsetFault d) (told-tracks s) (told-offset d)) (told-misfit (misfitOf a b s d))
 
-  known-unless : (c : Checked) (l : Least) → Told c → Known a b (leastNumbers l .refusal) → Known a b (leastNumbers (unlessRefused c l) .refusal)
+  known-unless : (c : Checked) (l : Least) → Told c → Known a b (leastNumbers l .refusal) → Known a b (leastNumbers (unlessRefused c NoLeast l) .refusal)
   known-unless Accepted l h k = k
   known-unless (Refused r) l h k = h
 
@@ -96,7 +97,7 @@ module _ (a b : List ℤ) where
       let s = leastOf (leanOf a) (leanOf b) d (length a) in
       known-unless (checkOffset a b d) (withWitness s (misfitOf a b (s - 1) d)) (told-or (checkRows a b) (offsetFault d) told-rows (told-offset d)) (known-shown s (misfitOf a b (s - 1) d))
 
-  known-none : (c : Checked) (q : Offsets) → Told c → Known a b (offsetsNumbers q .refusal) → Known a b (offsetsNumbers (unlessNone c q) .refusal)
+  known-none : (c : Checked) (q : Offsets) → Told c → Known a b (offsetsNumbers q .refusal) → Known a b (offsetsNumbers (unlessRefused c NoRange q) .refusal)
   known-none Accepted q h k = k
   known-none (Refused r) q h k = h
 

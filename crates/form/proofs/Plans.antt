@@ -15,7 +15,7 @@ use Rattle.wiring.specs.Fit.{leanOf, half}
 use Rattle.wiring.proofs.Rule.{spread}
 use Rattle.jumper.specs.Limits.{lastColumn, AcceptedOffset}
 use Rattle.jumper.specs.Refusals.{refusalNumbers}
-use Rattle.jumper.specs.Rows.{AcceptedRow, AcceptedRows, checkRows}
+use Rattle.jumper.specs.Rows.{AcceptedRow, AcceptedRows, unlessRefused, checkRows}
 use Rattle.jumper.specs.Asked.{checkOffset, AcceptedTracks}
 use Rattle.jumper.specs.Span.{rangeOf}
 use Rattle.jumper.specs.declared.refusal.Refusal.{Refusal}
@@ -25,7 +25,7 @@ use Rattle.jumper.specs.declared.rows.Checked.the-variants.{Accepted, Refused}
 use Rattle.jumper.proofs.Accepted.{numbered}
 use Rattle.jumper.proofs.Checks.{Early, tracks-accepted, early-shift, early-rows}
 use Rattle.fit.specs.Misfit.{misfitOf, FitAnswer}
-use Rattle.fit.specs.Least.{leastNumbers, leastOf, withWitness, unlessRefused, leastAnswer, LeastAnswer}
+use Rattle.fit.specs.Least.{leastNumbers, leastOf, withWitness, leastAnswer, LeastAnswer}
 use Rattle.fit.specs.Offsets.{offsetsNumbers, offsetsAnswer, rangeFound, OffsetsAnswer}
 use Rattle.fit.specs.declared.misfit.Misfit.{Misfit}
 use Rattle.fit.specs.declared.misfit.Misfit.the-variants.{None, At}
@@ -71,7 +71,7 @@ least-never a b d r e z =
     let s = leastOf (leanOf a) (leanOf b) d (length a) in
     go (checkOffset a b d) (early-shift a b d) s (misfitOf a b (s - 1) d) (ap (λ (l : Least). leastNumbers l .refusal) e)
   where
-    go : (c : Checked) → Early 7 c → (s : ℕ) (m : Misfit) → refusalNumbers r .refusal ≡ leastNumbers (unlessRefused c (withWitness s m)) .refusal → ⊥
+    go : (c : Checked) → Early 7 c → (s : ℕ) (m : Misfit) → refusalNumbers r .refusal ≡ leastNumbers (unlessRefused c NoLeast (withWitness s m)) .refusal → ⊥
     go (Refused q) l s m e = omega arith
     go Accepted l zero m e = omega arith
     go Accepted l (suc s) None e = omega arith

@@ -11,8 +11,8 @@ use Prim.Native.Nat.{ℕ, zero, suc, _+_, _*_, _≤_, _<_}
 use lib.Dec.{eqb, ltb}
 use lib.ListN.{length, take}
 use lib.IntN.{ℤ}
-use lib.Signed.{_≤ℤ_, _<ℤ_, ltZ, leZ}
-use Rattle.whole.specs.Pick.{largerOf, smallerOf}
+use lib.Signed.{_≤ℤ_, _<ℤ_, leZ}
+use Rattle.whole.specs.Pick.{differ, largerOf, smallerOf}
 use Rattle.wiring.specs.Wiring.{pad, topPad}
 use Rattle.jumper.specs.Rows.{checkedNumbers, pick, orElse}
 use Rattle.jumper.specs.Asked.{checkAsked, Asked}
@@ -66,9 +66,6 @@ pub record FirstFault (n s : ℕ) (a c : ℕ → ℤ) (e : ℕ → ℕ → ℤ) 
   pub wires : (j : ℕ) → j < i → Fault n s a c e t j → ⊥
 
 -- the same by tests
-unfoldable pub differ : ℤ → ℤ → Bool
-differ x y = cond (ltZ x y) true (ltZ y x)
-
 unfoldable pub startWrong : (a : ℕ → ℤ) (e : ℕ → ℕ → ℤ) (t i : ℕ) → Bool
 startWrong a e t i = cond (eqb t 0) (differ (e i 0) (a i)) false
 

@@ -10,7 +10,7 @@ ghost use Rattle.wiring.specs.Wiring.{pad, topPad};
 ghost use Rattle.jumper.specs.Limits.{maxPairs, maxTracks};
 ghost use Rattle.jumper.specs.Asked.{Asked};
 ghost use Rattle.route.specs.Table.{columnIn};
-ghost use Rattle.route.specs.Check.{rightmost, leftmost, WireClear, NoFault, RunsApart, differ, startWrong, endWrong, runTouches, faultOf, wireFault, firstFault, RouteCheck};
+ghost use Rattle.route.specs.Check.{rightmost, leftmost, WireClear, NoFault, RunsApart, startWrong, endWrong, runTouches, faultOf, wireFault, firstFault, RouteCheck};
 use crate::drawing::places;
 use crate::drawing::top_pad;
 use jumper::asked::check_asked;
@@ -33,12 +33,6 @@ pub fn check_route(a: &[i32], b: &[i32], s: usize, d: i32, table: &[i32]) -> Che
             first_fault(a, b, s, d, table)
         }
     }
-}
-
-fn differs(x: i32, y: i32) -> bool
-    ensures { λ r. ⌜ r ≡ differ x y ⌝ }
-{
-    x != y
 }
 
 // The column on which wire i enters track t.
@@ -70,7 +64,7 @@ fn start_wrong(a: &[i32], s: usize, table: &[i32], t: usize, i: usize) -> bool
     ensures { λ r. ⌜ r ≡ startWrong (pad (now (a .entry))) (columnIn (now (table .entry)) s) t i ⌝ }
 {
     if t == 0 {
-        return differs(column_in(table, s, i, 0), a[i]);
+        return whole::differs(column_in(table, s, i, 0), a[i]);
     }
     false
 }
@@ -80,7 +74,7 @@ fn end_wrong(a: &[i32], b: &[i32], s: usize, d: i32, table: &[i32], t: usize, i:
     ensures { λ r. ⌜ r ≡ endWrong s (topPad (now (b .entry)) d) (columnIn (now (table .entry)) s) t i ⌝ }
 {
     if t == s {
-        return differs(column_in(table, s, i, s), top_pad(b, i, d));
+        return whole::differs(column_in(table, s, i, s), top_pad(b, i, d));
     }
     false
 }
