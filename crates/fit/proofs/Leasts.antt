@@ -1,34 +1,30 @@
 -- The least separation (003, theorem 3): what the scan of the definition finds, what the code's search finds, and what `least_at` promises.
-use mathlib.Core.Path.{_≡_, refl, sym, ap, _∙_}
+use mathlib.Core.Path.{_≡_, refl, sym, _∙_}
 use mathlib.Core.Bool.{Bool, true, false, cond}
 use mathlib.Core.List.{List}
-use mathlib.Core.Logic.{_⊎_, inl, inr, _↔_, ⊎-elim}
+use mathlib.Core.Logic.{_⊎_, inl, inr, ⊎-elim}
 use Prim.Native.Nat.{ℕ, zero, suc, _+_, _-_, _<_, _≤_}
 use native.Mathlib.Decide.{decLt}
 use native.Mathlib.Numerals.{add-one}
 use native.Mathlib.Omega.{arith}
 use lib.ListN.{length}
 use lib.IntN.{ℤ}
-use lib.Signed.{_≤ℤ_, _<ℤ_, ltZ}
+use lib.Signed.{_≤ℤ_}
 use Rattle.whole.proofs.Arith.{up, down, arithℤ}
 use Rattle.whole.proofs.Order.{true-lt, false-lt, lt-false}
 use Rattle.wiring.specs.Wiring.{HasWiring}
 use Rattle.wiring.specs.Fit.{leanOf, Steady, lowEnd, highEnd, Fits, TooRight, TooLeft}
 use Rattle.wiring.proofs.Rule.{lean-steady, fits-above, ends-next, right-breaks, left-breaks}
-use Rattle.jumper.specs.Refusals.{sideNumber}
 use Rattle.jumper.specs.Asked.{checkOffset, AcceptedShift, Asked}
 use Rattle.jumper.specs.declared.refusal.Side.{Side}
 use Rattle.jumper.specs.declared.refusal.Side.the-variants.{Right, Left}
 use Rattle.jumper.specs.declared.refusal.Refusal.{Refusal}
-use Rattle.jumper.specs.declared.rows.Checked.{Checked}
-use Rattle.jumper.specs.declared.rows.Checked.the-variants.{Accepted, Refused}
+use Rattle.jumper.specs.declared.rows.Checked.the-variants.{Refused}
 use Rattle.jumper.proofs.Accepted.{numbered, refused-not}
-use Rattle.jumper.proofs.Checks.{accepted-shift, shift-accepted, early-shift}
-use Rattle.fit.specs.Misfit.{tooRight, tooLeft, isRight, misfitFrom, misfitOf, Witness}
-use Rattle.fit.specs.Least.{leastNumbers, breaksAt, leastOf, withWitness, leastAnswer, LeastAnswer}
-use Rattle.fit.specs.declared.misfit.Misfit.{Misfit}
+use Rattle.jumper.proofs.Checks.{shift-accepted}
+use Rattle.fit.specs.Misfit.{tooRight, tooLeft, isRight, misfitFrom, misfitOf}
+use Rattle.fit.specs.Least.{breaksAt, leastOf, withWitness, LeastAnswer}
 use Rattle.fit.specs.declared.misfit.Misfit.the-variants.{None, At}
-use Rattle.fit.specs.declared.least.Least.{Least}
 use Rattle.fit.specs.declared.least.Least.the-variants.{Straight, Tracks, Refused as NoLeast}
 use Rattle.fit.proofs.Misfits.{Free, not-here, none-fits, at-witness, witness-inside, witness-breaks, free-before, wiring-exactly}
 

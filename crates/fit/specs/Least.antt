@@ -1,9 +1,9 @@
 -- The least separation at an offset (01, "Rules of fit"; refusals 1 to 5, then 7).
-use mathlib.Core.Bool.{Bool, true, false, cond}
+use mathlib.Core.Bool.{Bool, true, cond}
 use mathlib.Core.Path.{_≡_}
 use mathlib.Core.List.{List}
 use mathlib.Core.Logic.{_↔_}
-use Prim.Native.Nat.{ℕ, zero, suc, _+_, _-_, _≤_, _<_}
+use Prim.Native.Nat.{ℕ, zero, suc, _-_, _≤_, _<_}
 use lib.ListN.{length}
 use lib.IntN.{ℤ, pos}
 use Rattle.wiring.specs.Wiring.{HasWiring}
@@ -12,10 +12,6 @@ use Rattle.jumper.specs.Refusals.{sideNumber, refusalNumbers, nothing}
 use Rattle.jumper.specs.Rows.{unlessRefused}
 use Rattle.jumper.specs.Asked.{checkOffset, AcceptedShift}
 use Rattle.jumper.specs.declared.refusal.Numbers.{Numbers}
-use Rattle.jumper.specs.declared.refusal.Side.{Side}
-use Rattle.jumper.specs.declared.refusal.Refusal.{Refusal}
-use Rattle.jumper.specs.declared.rows.Checked.{Checked}
-use Rattle.jumper.specs.declared.rows.Checked.the-variants.{Accepted, Refused}
 use Rattle.fit.specs.Misfit.{tooRight, tooLeft, misfitOf, Witness}
 use Rattle.fit.specs.declared.misfit.Misfit.{Misfit}
 use Rattle.fit.specs.declared.misfit.Misfit.the-variants.{None, At}

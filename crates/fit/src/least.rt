@@ -1,8 +1,5 @@
 // The least separation at an offset.
 ghost use mathlib.Core.Path.{_≡_};
-ghost use Prim.Native.Nat.{_+_, _-_, _≤_, _<_};
-ghost use lib.ListN.{length};
-ghost use Rattle.wiring.specs.Fit.{leanOf};
 ghost use Rattle.jumper.specs.Asked.{AcceptedShift};
 ghost use Rattle.fit.specs.Least.{leastNumbers, LeastAnswer};
 use crate::misfit::Misfit;

@@ -4,20 +4,14 @@ use mathlib.Core.Bool.{Bool}
 use mathlib.Core.List.{List}
 use Prim.Native.Nat.{ℕ, zero, suc, _+_, _*_, _≤_, _<_}
 use native.Mathlib.Decide.{decLt}
-use native.Mathlib.Numerals.{add-one}
 use native.Mathlib.Omega.{arith}
 use borrow.Author.Tests.{lt-ltb, le-ltb}
 use lib.ListN.{length, take, length-take, getD}
 use lib.Seq.{getD-take}
 use lib.IntN.{ℤ, pos}
 use Rattle.wiring.specs.Wiring.{pad, topPad}
-use Rattle.jumper.specs.Rows.{pick, orElse}
-use Rattle.jumper.specs.Asked.{checkAsked}
-use Rattle.jumper.specs.declared.refusal.Refusal.the-variants.{BadWire}
-use Rattle.jumper.specs.declared.rows.Checked.{Checked}
-use Rattle.jumper.specs.declared.rows.Checked.the-variants.{Refused}
 use Rattle.route.specs.Table.{columnIn, noRoom}
-use Rattle.route.specs.Check.{startWrong, endWrong, runTouches, faultAt, wireFault, trackFault, firstFault, routeChecked}
+use Rattle.route.specs.Check.{startWrong, endWrong, runTouches, faultAt, wireFault, trackFault, routeChecked}
 use Rattle.route.proofs.Places.{place-in}
 use Rattle.route.proofs.Faults.{touches-here, touches-last, touches-top}
 

@@ -6,13 +6,13 @@ use Prim.Native.Nat.{ℕ, _+_, _≤_, _<_, _^_}
 use native.Mathlib.Omega.{arith}
 use borrow.Author.Tests.{eqb-true, eqb-false}
 use lib.Dec.{eqb}
-use lib.IntN.{ℤ, pos, negsuc, negℤ, _+ℤ_, _-ℤ_, natAbs}
-use lib.Signed.{mag, _≤ℤ_}
+use lib.IntN.{ℤ, pos, negsuc, _+ℤ_, _-ℤ_, natAbs}
+use lib.Signed.{mag}
 use mir.Syntax.{w32}
 use mir.Val.{toZ, ofZ, SFits}
 use mir.ValLaws.{toZ-ofZ}
 use Rattle.whole.specs.Pick.{differ}
-use Rattle.whole.proofs.Arith.{up, down, arithℤ, sum, dif, neg, ≤-or-<}
+use Rattle.whole.proofs.Arith.{up, down, arithℤ, sum, dif, ≤-or-<}
 use Rattle.whole.proofs.Order.{lt-true, lt-false}
 
 pub back : (z : ℤ) → mag z < 2 ^ 31 → toZ w32 (ofZ w32 z) ≡ z
@@ -26,9 +26,6 @@ abs-halves (negsuc n) = omega arith
 pub abs-of : (z : ℤ) (B : ℕ) → up z ≤ down z + B → down z ≤ up z + B → natAbs z ≤ B
 abs-of (pos n) B h k = omega arith
 abs-of (negsuc n) B h k = omega arith
-
-pub abs-within : (z : ℤ) (B : ℕ) → negℤ (pos B) ≤ℤ z → z ≤ℤ pos B → natAbs z ≤ B
-abs-within z B h k = abs-of z B (omega arithℤ) (omega (arithℤ, neg (pos B)))
 
 pub abs-is : (z : ℤ) (B : ℕ) → (up z ≡ down z + B) ⊎ (down z ≡ up z + B) → natAbs z ≡ B
 abs-is (pos n) B (inl h) = omega arith

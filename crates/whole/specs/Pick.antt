@@ -1,6 +1,6 @@
 -- Whether two whole numbers differ, the larger and the smaller of two, and the first place at which a run of them is largest or smallest.
 -- Contracts of every floor cite these.
-use mathlib.Core.Bool.{Bool, true, false, cond}
+use mathlib.Core.Bool.{Bool, true, cond}
 use Prim.Native.Nat.{ℕ, zero, suc}
 use lib.IntN.{ℤ}
 use lib.Signed.{ltZ}

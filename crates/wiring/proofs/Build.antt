@@ -4,17 +4,16 @@ use mathlib.Core.Path.{_≡_, refl, sym, ap, _∙_}
 use mathlib.Core.List.{List, [], _∷_}
 use mathlib.Core.Logic.{_⊎_, inl, inr, ⊎-elim, _↔_}
 use Prim.Native.Nat.{ℕ, zero, suc, _+_, _-_, _≤_, _<_}
-use native.Mathlib.Decide.{ℕ-discrete, decLe}
-use native.Mathlib.Numerals.{add-one}
+use native.Mathlib.Decide.{ℕ-discrete}
 use native.Mathlib.Omega.{arith}
-use lib.IntN.{ℤ, pos, _+ℤ_, _-ℤ_, natAbs}
-use lib.Signed.{_≤ℤ_, _<ℤ_, leZ}
+use lib.IntN.{ℤ, pos, _-ℤ_, natAbs}
+use lib.Signed.{_≤ℤ_, _<ℤ_}
 use Rattle.whole.proofs.Arith.{up, down, arithℤ, sum, dif, ≤-or-<}
 use Rattle.whole.proofs.Order.{le-true, le-false}
 use Rattle.whole.proofs.Machine.{abs-is}
-use Rattle.wiring.specs.Wiring.{Point, at, Beside, Step, Wire, On, Legal}
+use Rattle.wiring.specs.Wiring.{Point, at, Beside, Wire, On}
 use Rattle.wiring.specs.Table.{east, west, steps, along, upFrom, wireOf, Between, Fills, LegalTable}
-use Rattle.wiring.proofs.Walk.{Among, on-among, among-on, Leads, Walk, wire-walk, walk-wire, same-point}
+use Rattle.wiring.proofs.Walk.{Among, on-among, among-on, Leads, wire-walk, walk-wire, same-point}
 
 -- how far y is to the right of x
 gap : (x y : ℤ) → x ≤ℤ y → up x + down y + natAbs (y -ℤ x) ≡ up y + down x
