@@ -12,6 +12,7 @@ use Rattle.whole.specs.Pick.{firstBy, largestAt, smallestAt}
 use Rattle.wiring.specs.Wiring.{pad}
 use Rattle.wiring.specs.Fit.{Steady, lowEnd, highEnd, evens, half}
 use Rattle.wiring.proofs.Halving.{evens-steady}
+use Rattle.jumper.specs.Range.{isEmpty}
 use Rattle.jumper.specs.Span.{rangeOf}
 use Rattle.best.specs.Halving.{emptyAt, fromEven, fromHalf}
 use Rattle.best.specs.Work.{Filled, Halvable}
@@ -61,7 +62,7 @@ module _ (m : ℕ) (x y x' y' : ℕ → ℤ) (ax : Agree m x x') (ay : Agree m y
       cc (ap (lowEnd x y s) l ∙ p, ap (highEnd x y s) g ∙ q)
 
   empty-agrees : (s : ℕ) → s < m → emptyAt m x y s ≡ emptyAt m x' y' s
-  empty-agrees s h = ap (λ (r : _). ltZ (r .high) (r .low)) (range-agrees s h)
+  empty-agrees s h = ap isEmpty (range-agrees s h)
 
   pub half-agrees : (h c : ℕ) → 1 < m → 4 * h ≤ m + 1 → fromHalf m x y h c ≡ fromHalf m x' y' h c
   unfolding fromHalf fromEven

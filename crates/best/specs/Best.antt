@@ -11,13 +11,11 @@ use lib.Signed.{_≤ℤ_}
 use Rattle.wiring.specs.Wiring.{HasWiring}
 use Rattle.wiring.specs.Fit.{leanOf}
 use Rattle.jumper.specs.Refusals.{refusalNumbers}
-use Rattle.jumper.specs.Rows.{AcceptedRows, checkRows}
+use Rattle.jumper.specs.Rows.{AcceptedRows, unlessRefused, checkRows}
 use Rattle.jumper.specs.Range.{Within, rangeNamed}
 use Rattle.jumper.specs.Span.{rangeOf}
 use Rattle.jumper.specs.declared.refusal.Numbers.{Numbers}
 use Rattle.jumper.specs.declared.refusal.Refusal.the-variants.{Buffer}
-use Rattle.jumper.specs.declared.rows.Checked.{Checked}
-use Rattle.jumper.specs.declared.rows.Checked.the-variants.{Accepted, Refused as RowsRefused}
 use Rattle.best.specs.Halving.{Halving, halving, maxReadAPair, ladderCount}
 use Rattle.best.specs.declared.plan.Planned.{Planned}
 use Rattle.best.specs.declared.plan.Best.{Best}
@@ -48,12 +46,8 @@ abbrev pub roomOr : Bool → Planned → Best
 roomOr true p = Refused Buffer
 roomOr false p = Found p
 
-abbrev pub unlessRefused : Checked → Best → Best
-unlessRefused Accepted q = q
-unlessRefused (RowsRefused r) q = Refused r
-
 abbrev pub bestAnswer : (a b : List ℤ) (before : List ℕ) → Best
-bestAnswer a b before = unlessRefused (checkRows a b) (roomOr (ltb (length before) (length (ladderOf a b))) (plannedOf a b))
+bestAnswer a b before = unlessRefused (checkRows a b) Refused (roomOr (ltb (length before) (length (ladderOf a b))) (plannedOf a b))
 
 -- "The ladder, written to a lent buffer .. places beyond are untouched", and on a refusal "no lent memory changes"
 abbrev pub ladderBy : Best → (ladder before : List ℕ) → List ℕ

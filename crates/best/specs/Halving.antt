@@ -8,13 +8,13 @@ use mathlib.Core.List.{List, [], _∷_}
 use Prim.Native.Nat.{ℕ, zero, suc, _+_, _-_, _*_}
 use lib.Dec.{ltb}
 use lib.IntN.{ℤ}
-use lib.Signed.{ltZ}
 use Rattle.wiring.specs.Fit.{evens, half}
+use Rattle.jumper.specs.Range.{isEmpty}
 use Rattle.jumper.specs.Span.{rangeOf}
 
 -- a trial at s among m pairs asks whether the range there is empty
 abbrev pub emptyAt : (m : ℕ) (x y : ℕ → ℤ) (s : ℕ) → Bool
-emptyAt m x y s = ltZ (rangeOf m x y s .high) (rangeOf m x y s .low)
+emptyAt m x y s = isEmpty (rangeOf m x y s)
 
 -- "A trial at s among m pairs reads 2(m - s) differences."
 abbrev pub readAt : (m s : ℕ) → ℕ

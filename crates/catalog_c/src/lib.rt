@@ -8,7 +8,7 @@ ghost use Rattle.fit.specs.Stretch.{StretchPlace};
 ghost use Rattle.fit.specs.Least.{leastNumbers, leastAnswer, LeastAnswer};
 ghost use Rattle.fit.specs.Offsets.{offsetsNumbers, offsetsAnswer, OffsetsAnswer};
 ghost use Rattle.best.specs.Best.{bestNumbers, bestAnswer, ladderBy, ladderOf, BestAnswer};
-ghost use Rattle.route.specs.Draw.{wireRefusal, allRefusal, unlessRefused, wireDrawn, allDrawn, DrawWireAnswer, DrawAllAnswer};
+ghost use Rattle.route.specs.Draw.{wireRefusal, allRefusal, bufferAfter, wireDrawn, allDrawn, DrawWireAnswer, DrawAllAnswer};
 ghost use Rattle.route.specs.Check.{routeChecked, RouteCheck};
 ghost use Rattle.form.specs.Line.{LineAnswer};
 ghost use Rattle.catalog_c.specs.InNumbers.{InNumbers};
@@ -81,7 +81,7 @@ pub extern "C" fn obrastyn_draw_wire(
     out: &mut [i32],
 ) -> Numbers
     ensures answer { λ r. ⌜ r ≡ checkedNumbers (wireRefusal (now (a .entry)) (now (b .entry)) s d wire (length (now (out .entry)))) ⌝ }
-    ensures buffer { λ r. ⌜ now (out .exit) ≡ unlessRefused (wireRefusal (now (a .entry)) (now (b .entry)) s d wire (length (now (out .entry)))) (wireDrawn (now (a .entry)) (now (b .entry)) s d wire (now (out .entry))) (now (out .entry)) ⌝ }
+    ensures buffer { λ r. ⌜ now (out .exit) ≡ bufferAfter (wireRefusal (now (a .entry)) (now (b .entry)) s d wire (length (now (out .entry)))) (wireDrawn (now (a .entry)) (now (b .entry)) s d wire (now (out .entry))) (now (out .entry)) ⌝ }
     ensures means { λ r. ⌜ InNumbers checkedNumbers (DrawWireAnswer (now (a .entry)) (now (b .entry)) s d wire (now (out .entry)) (now (out .exit))) r ⌝ }
 {
     route::drawing::draw_wire(a, b, s, d, wire, out).numbers()
@@ -97,7 +97,7 @@ pub extern "C" fn obrastyn_draw_all(
     out: &mut [i32],
 ) -> Numbers
     ensures answer { λ r. ⌜ r ≡ checkedNumbers (allRefusal (now (a .entry)) (now (b .entry)) s d (length (now (out .entry)))) ⌝ }
-    ensures buffer { λ r. ⌜ now (out .exit) ≡ unlessRefused (allRefusal (now (a .entry)) (now (b .entry)) s d (length (now (out .entry)))) (allDrawn (now (a .entry)) (now (b .entry)) s d (now (out .entry))) (now (out .entry)) ⌝ }
+    ensures buffer { λ r. ⌜ now (out .exit) ≡ bufferAfter (allRefusal (now (a .entry)) (now (b .entry)) s d (length (now (out .entry)))) (allDrawn (now (a .entry)) (now (b .entry)) s d (now (out .entry))) (now (out .entry)) ⌝ }
     ensures means { λ r. ⌜ InNumbers checkedNumbers (DrawAllAnswer (now (a .entry)) (now (b .entry)) s d (now (out .entry)) (now (out .exit))) r ⌝ }
 {
     route::drawing::draw_all(a, b, s, d, out).numbers()

@@ -1,11 +1,12 @@
 -- The code's sums of columns are the ends that a pair sets, and its tests are the rule's; all of them fit an i32.
 use mathlib.Core.Path.{_≡_}
 use mathlib.Core.List.{List}
-use Prim.Native.Nat.{ℕ, _+_, _≤_, _<_, _^_}
+use Prim.Native.Nat.{ℕ, _+_, _-_, _≤_, _<_, _^_}
 use native.Mathlib.Omega.{arith}
 use lib.ListN.{length}
 use lib.IntN.{ℤ, pos, _+ℤ_, _-ℤ_, natAbs}
-use lib.Signed.{_<ℤ_, ltZ, mag}
+use lib.Signed.{ltZ, mag}
+use Rattle.whole.specs.Pick.{largestAt, smallestAt}
 use Rattle.whole.proofs.Arith.{up, down, arithℤ, sum, dif}
 use Rattle.whole.proofs.Order.{lt-same}
 use Rattle.whole.proofs.Machine.{fits32, abs-sum, abs-dif}
@@ -15,6 +16,7 @@ use Rattle.jumper.specs.Limits.{AcceptedOffset}
 use Rattle.jumper.specs.Rows.{AcceptedRow, AcceptedRows}
 use Rattle.jumper.proofs.Accepted.{near, near-offset}
 use Rattle.fit.specs.Misfit.{tooRight, tooLeft}
+use Rattle.fit.specs.Offsets.{lowGap, highGap, gapsOf}
 
 module _ (a b : List ℤ) (s i : ℕ) where
   pub low-is : (pad a i -ℤ pad b (i + s)) +ℤ pos s ≡ lowEnd (leanOf a) (leanOf b) s i
@@ -54,10 +56,10 @@ module _ {a b : List ℤ} (r : AcceptedRows a b) (s i j : ℕ) (few : s < length
   pub fit-difference : mag (pad a i -ℤ pad b j) < 2 ^ 31
   fit-difference = fits32 (pad a i -ℤ pad b j) (omega (arith, abs-dif (pad a i) (pad b j), near a (r .bottom) i, near b (r .top) j))
 
-  pub fit-low : mag ((pad a i -ℤ pad b j) +ℤ pos s) < 2 ^ 31
+  fit-low : mag ((pad a i -ℤ pad b j) +ℤ pos s) < 2 ^ 31
   fit-low = fits32 ((pad a i -ℤ pad b j) +ℤ pos s) (omega (arith, abs-sum (pad a i -ℤ pad b j) (pos s), abs-dif (pad a i) (pad b j), near a (r .bottom) i, near b (r .top) j, small))
 
-  pub fit-high : mag ((pad a i -ℤ pad b j) -ℤ pos s) < 2 ^ 31
+  fit-high : mag ((pad a i -ℤ pad b j) -ℤ pos s) < 2 ^ 31
   fit-high = fits32 ((pad a i -ℤ pad b j) -ℤ pos s) (omega (arith, abs-dif (pad a i -ℤ pad b j) (pos s), abs-dif (pad a i) (pad b j), near a (r .bottom) i, near b (r .top) j, small))
 
   pub fit-bottom : mag (pad a i +ℤ pos s) < 2 ^ 31
@@ -69,6 +71,13 @@ module _ {a b : List ℤ} (r : AcceptedRows a b) (s i j : ℕ) (few : s < length
 
     pub fit-top-on : mag ((pad b j +ℤ d) +ℤ pos s) < 2 ^ 31
     fit-top-on = fits32 ((pad b j +ℤ d) +ℤ pos s) (omega (arith, abs-sum (pad b j +ℤ d) (pos s), abs-sum (pad b j) d, near b (r .top) j, near-offset d o, small))
+
+module _ {a b : List ℤ} (r : AcceptedRows a b) (s : ℕ) (few : s < length a) where
+  pub fit-low-gap : mag (gapsOf a b s .low +ℤ pos s) < 2 ^ 31
+  fit-low-gap = let i = largestAt (lowGap a b s) (length a - s - 1) in fit-low r s i (i + s) few
+
+  pub fit-high-gap : mag (gapsOf a b s .high -ℤ pos s) < 2 ^ 31
+  fit-high-gap = let i = smallestAt (highGap a b s) (length a - s - 1) in fit-high r s (i + s) i few
 
 pub fit-span : {a : List ℤ} → AcceptedRow a → (i j : ℕ) → mag (pad a i -ℤ pad a j) < 2 ^ 31
 fit-span {a} r i j = fits32 (pad a i -ℤ pad a j) (omega (arith, abs-dif (pad a i) (pad a j), near a r i, near a r j))

@@ -1,34 +1,30 @@
--- The least separation (003, theorem 3): what the scan of the definition finds, what the code's climb finds, and what `least_at` promises.
-use mathlib.Core.Path.{_≡_, refl, sym, ap, _∙_}
+-- The least separation (003, theorem 3): what the scan of the definition finds, what the code's search finds, and what `least_at` promises.
+use mathlib.Core.Path.{_≡_, refl, sym, _∙_}
 use mathlib.Core.Bool.{Bool, true, false, cond}
 use mathlib.Core.List.{List}
-use mathlib.Core.Logic.{_⊎_, inl, inr, _↔_, ⊎-elim}
+use mathlib.Core.Logic.{_⊎_, inl, inr, ⊎-elim}
 use Prim.Native.Nat.{ℕ, zero, suc, _+_, _-_, _<_, _≤_}
 use native.Mathlib.Decide.{decLt}
 use native.Mathlib.Numerals.{add-one}
 use native.Mathlib.Omega.{arith}
 use lib.ListN.{length}
 use lib.IntN.{ℤ}
-use lib.Signed.{_≤ℤ_, _<ℤ_, ltZ}
+use lib.Signed.{_≤ℤ_}
 use Rattle.whole.proofs.Arith.{up, down, arithℤ}
 use Rattle.whole.proofs.Order.{true-lt, false-lt, lt-false}
 use Rattle.wiring.specs.Wiring.{HasWiring}
 use Rattle.wiring.specs.Fit.{leanOf, Steady, lowEnd, highEnd, Fits, TooRight, TooLeft}
 use Rattle.wiring.proofs.Rule.{lean-steady, fits-above, ends-next, right-breaks, left-breaks}
-use Rattle.jumper.specs.Refusals.{sideNumber}
 use Rattle.jumper.specs.Asked.{checkOffset, AcceptedShift, Asked}
 use Rattle.jumper.specs.declared.refusal.Side.{Side}
 use Rattle.jumper.specs.declared.refusal.Side.the-variants.{Right, Left}
 use Rattle.jumper.specs.declared.refusal.Refusal.{Refusal}
-use Rattle.jumper.specs.declared.rows.Checked.{Checked}
-use Rattle.jumper.specs.declared.rows.Checked.the-variants.{Accepted, Refused}
+use Rattle.jumper.specs.declared.rows.Checked.the-variants.{Refused}
 use Rattle.jumper.proofs.Accepted.{numbered, refused-not}
-use Rattle.jumper.proofs.Checks.{accepted-shift, shift-accepted, early-shift}
-use Rattle.fit.specs.Misfit.{tooRight, tooLeft, rightward, misfitFrom, misfitOf, Witness}
-use Rattle.fit.specs.Least.{leastNumbers, breaksAt, leastOf, shown, leastAnswer, LeastAnswer}
-use Rattle.fit.specs.declared.misfit.Misfit.{Misfit}
+use Rattle.jumper.proofs.Checks.{shift-accepted}
+use Rattle.fit.specs.Misfit.{tooRight, tooLeft, isRight, misfitFrom, misfitOf}
+use Rattle.fit.specs.Least.{breaksAt, leastOf, withWitness, LeastAnswer}
 use Rattle.fit.specs.declared.misfit.Misfit.the-variants.{None, At}
-use Rattle.fit.specs.declared.least.Least.{Least}
 use Rattle.fit.specs.declared.least.Least.the-variants.{Straight, Tracks, Refused as NoLeast}
 use Rattle.fit.proofs.Misfits.{Free, not-here, none-fits, at-witness, witness-inside, witness-breaks, free-before, wiring-exactly}
 
@@ -137,7 +133,7 @@ module _ (a b : List ℤ) (d : ℤ) where
           witness = λ z q. at-witness a b (s - 1) d i side e;
         }
       where
-        shows : (s i : ℕ) (side : Side) → 0 < s → Tracks s i side ≡ shown s (At i side)
+        shows : (s i : ℕ) (side : Side) → 0 < s → Tracks s i side ≡ withWitness s (At i side)
         shows zero i side h = absurd (omega arith)
         shows (suc s) i side h = refl
 
@@ -152,19 +148,19 @@ module _ (a b : List ℤ) (d : ℤ) where
         witness = λ z. absurd (numbered r z);
       }
 
--- THE CLIMB: the pairs before i are free at s; and where s isn't 0, pair i is the witness at one track fewer, on the right or the left
+-- THE SEARCH: the pairs before i are free at s; and where s isn't 0, pair i is the witness at one track fewer, on the right or the left
 abbrev pub sideOf : Bool → Side
 sideOf true = Right
 sideOf false = Left
 
-pub record Climbing (a b : List ℤ) (d : ℤ) (s i : ℕ) (right : Bool) : Type 0 where
+pub record Seeking (a b : List ℤ) (d : ℤ) (s i : ℕ) (right : Bool) : Type 0 where
   pub below : s ≤ length a
   pub start : i ≤ length a
   pub here : misfitOf a b s d ≡ misfitFrom (leanOf a) (leanOf b) s d i (length a - s - i)
   pub last : 0 < s → misfitOf a b (s - 1) d ≡ At i (sideOf right)
 
-pub climb-start : (a b : List ℤ) (d : ℤ) → Climbing a b d 0 0 true
-climb-start a b d = let e : length a - 0 - 0 ≡ length a - 0 = omega arith in record { below = omega arith; start = omega arith; here = rw e; last = λ h. absurd (omega arith) }
+pub seek-start : (a b : List ℤ) (d : ℤ) → Seeking a b d 0 0 true
+seek-start a b d = let e : length a - 0 - 0 ≡ length a - 0 = omega arith in record { below = omega arith; start = omega arith; here = rw e; last = λ h. absurd (omega arith) }
 
 -- free pairs are passed over
 skip : (x y : ℕ → ℤ) (s : ℕ) (d : ℤ) (n j : ℕ) → ((k : ℕ) → k < j → (k + s < n) × Free x y s d k) → misfitFrom x y s d 0 (n - s) ≡ misfitFrom x y s d j (n - s - j)
@@ -174,18 +170,18 @@ skip x y s d n (suc j) f =
     let e = not-here x y s d n j (g .0) (lt-false (highEnd x y s j) d (g .1 .high)) (lt-false d (lowEnd x y s j) (g .1 .low)) in
     skip x y s d n j (λ k h. f k (omega arith)) ∙ rw (add-one j) at e
 
-module _ (a b : List ℤ) (d : ℤ) (k : AcceptedShift a b d) (s i : ℕ) (right : Bool) (c : Climbing a b d s i right) where
+module _ (a b : List ℤ) (d : ℤ) (k : AcceptedShift a b d) (s i : ℕ) (right : Bool) (c : Seeking a b d s i right) where
   sx : Steady (length a) (leanOf a)
   sx = lean-steady (k .rows .bottom .rising)
 
   sy : Steady (length a) (leanOf b)
   sy = rw (k .rows .equal) (lean-steady (k .rows .top .rising))
 
-  pub climb-asked : Asked a b s d
-  climb-asked = record { rows = k .rows; tracks = omega (arith, c .below, k .rows .few); offset = k .offset }
+  pub seek-asked : Asked a b s d
+  seek-asked = record { rows = k .rows; tracks = omega (arith, c .below, k .rows .few); offset = k .offset }
 
-  pub climb-next : (j : ℕ) (side : Side) → misfitFrom (leanOf a) (leanOf b) s d i (length a - s - i) ≡ At j side → (s < length a) × Climbing a b d (s + 1) j (rightward side)
-  climb-next j side e =
+  pub seek-next : (j : ℕ) (side : Side) → misfitFrom (leanOf a) (leanOf b) s d i (length a - s - i) ≡ At j side → (s < length a) × Seeking a b d (s + 1) j (isRight side)
+  seek-next j side e =
       let m : misfitOf a b s d ≡ At j side = c .here ∙ e in
       let w = at-witness a b s d j side m in
       let l = witness-inside w in
@@ -199,7 +195,7 @@ module _ (a b : List ℤ) (d : ℤ) (k : AcceptedShift a b d) (s i : ℕ) (right
         },
       )
     where
-      side-back : (side : Side) → sideOf (rightward side) ≡ side
+      side-back : (side : Side) → sideOf (isRight side) ≡ side
       side-back Right = refl
       side-back Left = refl
 
@@ -207,8 +203,8 @@ module _ (a b : List ℤ) (d : ℤ) (k : AcceptedShift a b d) (s i : ℕ) (right
       freed : (p : ℕ) → p < j → Free (leanOf a) (leanOf b) s d p → p + suc s < length a → Free (leanOf a) (leanOf b) (s + 1) d p
       freed p h f l = let n = ends-next sx sy s p l in rw (add-one s) (record { low = omega (arithℤ, f .low, n .0); high = omega (arithℤ, f .high, n .1) })
 
-  pub climb-done : misfitFrom (leanOf a) (leanOf b) s d i (length a - s - i) ≡ None → s ≡ leastOf (leanOf a) (leanOf b) d (length a)
-  climb-done e =
+  pub seek-done : misfitFrom (leanOf a) (leanOf b) s d i (length a - s - i) ≡ None → s ≡ leastOf (leanOf a) (leanOf b) d (length a)
+  seek-done e =
       let m : misfitOf a b s d ≡ None = c .here ∙ e in
       least-once
       (record {
@@ -218,8 +214,8 @@ module _ (a b : List ℤ) (d : ℤ) (k : AcceptedShift a b d) (s i : ℕ) (right
       })
       (leastly (length a) (leanOf a) (leanOf b) d sx sy)
 
-  pub climb-straight : misfitFrom (leanOf a) (leanOf b) s d i (length a - s - i) ≡ None → s ≡ 0 → LeastAnswer a b d Straight
-  climb-straight e z = straight a b d k (sym (climb-done e) ∙ z)
+  pub seek-straight : misfitFrom (leanOf a) (leanOf b) s d i (length a - s - i) ≡ None → s ≡ 0 → LeastAnswer a b d Straight
+  seek-straight e z = straight a b d k (sym (seek-done e) ∙ z)
 
-  pub climb-tracks : misfitFrom (leanOf a) (leanOf b) s d i (length a - s - i) ≡ None → 0 < s → LeastAnswer a b d (Tracks s i (sideOf right))
-  climb-tracks e h = let f = climb-done e in rw f (tracks a b d k i (sideOf right) (rw f at h) (rw f at (c .last h)))
+  pub seek-tracks : misfitFrom (leanOf a) (leanOf b) s d i (length a - s - i) ≡ None → 0 < s → LeastAnswer a b d (Tracks s i (sideOf right))
+  seek-tracks e h = let f = seek-done e in rw f (tracks a b d k i (sideOf right) (rw f at h) (rw f at (c .last h)))

@@ -1,5 +1,5 @@
 -- The search for the least misfit: its steps as the code takes them, and what it says of the rule and of wirings.
-use mathlib.Core.Path.{_≡_, refl, sym, ap, _∙_}
+use mathlib.Core.Path.{_≡_, refl, sym, _∙_}
 use mathlib.Core.Bool.{Bool, true, false}
 use mathlib.Core.List.{List}
 use mathlib.Core.Logic.{_⊎_, inl, inr, _↔_, ⊎-elim}
@@ -8,26 +8,24 @@ use native.Mathlib.Nat.{eq-or-lt-of-le}
 use native.Mathlib.Numerals.{add-one}
 use native.Mathlib.Omega.{arith}
 use lib.ListN.{length}
-use lib.IntN.{ℤ, _+ℤ_}
-use lib.Signed.{_≤ℤ_, _<ℤ_, ltZ}
+use lib.IntN.{ℤ}
+use lib.Signed.{_≤ℤ_, _<ℤ_}
 use Rattle.whole.proofs.Arith.{up, down, arithℤ}
 use Rattle.whole.proofs.Order.{true-lt, false-lt}
-use Rattle.wiring.specs.Wiring.{pad, topPad, Wirable, HasWiring}
-use Rattle.wiring.specs.Fit.{leanOf, lowEnd, highEnd, Fits, TooRight, TooLeft}
+use Rattle.wiring.specs.Wiring.{pad, HasWiring}
+use Rattle.wiring.specs.Fit.{leanOf, lowEnd, highEnd, Fits}
 use Rattle.wiring.proofs.Rule.{right-breaks, left-breaks}
 use Rattle.wiring.proofs.Theorem.{fit-exactly}
-use Rattle.jumper.specs.Rows.{AcceptedRows, checkedNumbers, orElse}
+use Rattle.jumper.specs.Rows.{AcceptedRows}
 use Rattle.jumper.specs.Asked.{checkAsked, Asked}
 use Rattle.jumper.specs.Refusals.{sideNumber}
 use Rattle.jumper.specs.declared.refusal.Side.{Side}
 use Rattle.jumper.specs.declared.refusal.Side.the-variants.{Right, Left}
 use Rattle.jumper.specs.declared.refusal.Refusal.{Refusal}
-use Rattle.jumper.specs.declared.refusal.Refusal.the-variants.{NoFit}
-use Rattle.jumper.specs.declared.rows.Checked.{Checked}
 use Rattle.jumper.specs.declared.rows.Checked.the-variants.{Accepted, Refused}
 use Rattle.jumper.proofs.Accepted.{numbered, refused-not}
 use Rattle.jumper.proofs.Checks.{accepted-asked, asked-accepted, early-asked}
-use Rattle.fit.specs.Misfit.{tooRight, tooLeft, pickMisfit, misfitFrom, misfitOf, refusing, fitOf, Witness, FitAnswer}
+use Rattle.fit.specs.Misfit.{tooRight, tooLeft, pickMisfit, misfitFrom, misfitOf, noFit, Witness, FitAnswer}
 use Rattle.fit.specs.declared.misfit.Misfit.{Misfit}
 use Rattle.fit.specs.declared.misfit.Misfit.the-variants.{None, At}
 
@@ -125,7 +123,7 @@ pub wiring-exactly : {a b : List ℤ} → AcceptedRows a b → (s : ℕ) (d : �
 wiring-exactly {a} {b} r s d = fit-exactly (length a) s (pad a) (pad b) d (r .bottom .rising) (rw (r .equal) (r .top .rising))
 
 -- WHAT `fit` PROMISES, from its answer
-by-misfit : (a b : List ℤ) (s : ℕ) (d : ℤ) → Asked a b s d → (m : Misfit) → misfitOf a b s d ≡ m → FitAnswer a b s d (refusing m)
+by-misfit : (a b : List ℤ) (s : ℕ) (d : ℤ) → Asked a b s d → (m : Misfit) → misfitOf a b s d ≡ m → FitAnswer a b s d (noFit m)
 by-misfit a b s d k None e =
     record {
       answer = sym (rw (asked-accepted a b s d k, e));
@@ -156,5 +154,5 @@ fit-refused a b s d r e =
       witness = λ z. absurd (omega arith);
     }
 
-pub fit-found : (a b : List ℤ) (s : ℕ) (d : ℤ) (m : Misfit) → checkAsked a b s d ≡ Accepted → m ≡ misfitOf a b s d → FitAnswer a b s d (refusing m)
+pub fit-found : (a b : List ℤ) (s : ℕ) (d : ℤ) (m : Misfit) → checkAsked a b s d ≡ Accepted → m ≡ misfitOf a b s d → FitAnswer a b s d (noFit m)
 fit-found a b s d m e f = by-misfit a b s d (accepted-asked a b s d e) m (sym f)

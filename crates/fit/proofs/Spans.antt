@@ -1,35 +1,31 @@
 -- What `range_at` promises, from its answer; and the search for the pairs that set the ends of an empty range.
-use mathlib.Core.Path.{_≡_, refl, sym, ap, _∙_}
+use mathlib.Core.Path.{_≡_, refl, sym, _∙_}
 use mathlib.Core.Bool.{Bool, true, false}
 use mathlib.Core.List.{List}
-use mathlib.Core.Logic.{_↔_, ⊎-elim}
+use mathlib.Core.Logic.{_↔_}
 use Prim.Native.Nat.{ℕ, _+_, _-_, _<_, _≤_}
 use native.Mathlib.Decide.{decLt}
-use native.Mathlib.Nat.{eq-or-lt-of-le}
 use native.Mathlib.Omega.{arith}
 use borrow.Author.Tests.{lt-ltb, le-ltb}
 use lib.ListN.{length}
 use lib.IntN.{ℤ, pos, negℤ, _+ℤ_, _-ℤ_}
-use lib.Signed.{_≤ℤ_, ltZ}
 use Rattle.whole.specs.Pick.{largestAt, smallestAt}
-use Rattle.whole.proofs.Arith.{up, down, arithℤ}
-use Rattle.whole.proofs.Order.{true-lt, false-lt, untrue}
+use Rattle.whole.proofs.Arith.{up, down, arithℤ, sum, dif}
+use Rattle.whole.proofs.Order.{false-lt, untrue}
 use Rattle.whole.proofs.Extremes.{largest-law, smallest-law, largest-further, smallest-further}
 use Rattle.wiring.specs.Wiring.{HasWiring}
 use Rattle.wiring.specs.Fit.{leanOf, lowEnd, highEnd, Fits}
 use Rattle.wiring.proofs.Rule.{fits-past}
 use Rattle.jumper.specs.Asked.{checkTracks, AcceptedTracks}
-use Rattle.jumper.specs.Range.{Within, wholeRange}
+use Rattle.jumper.specs.Range.{wholeRange, isEmpty}
 use Rattle.jumper.specs.Span.{lowestAt, highestAt, rangeOf}
 use Rattle.jumper.specs.declared.refusal.Refusal.{Refusal}
 use Rattle.jumper.specs.declared.refusal.Refusal.the-variants.{NoOffset}
-use Rattle.jumper.specs.declared.rows.Checked.{Checked}
-use Rattle.jumper.specs.declared.rows.Checked.the-variants.{Accepted, Refused}
+use Rattle.jumper.specs.declared.rows.Checked.the-variants.{Refused}
 use Rattle.jumper.proofs.Accepted.{numbered, refused-not}
 use Rattle.jumper.proofs.Checks.{tracks-accepted, early-tracks}
 use Rattle.jumper.proofs.Spans.{range-exactly, none-fits}
-use Rattle.fit.specs.Offsets.{lowGap, highGap, gapsOf, rangeFound, offsetsNumbers, offsetsAnswer, FirstLow, FirstHigh, OffsetsAnswer}
-use Rattle.fit.specs.declared.offsets.Offsets.{Offsets}
+use Rattle.fit.specs.Offsets.{lowGap, highGap, gapsOf, rangeFound, FirstLow, FirstHigh, OffsetsAnswer}
 use Rattle.fit.specs.declared.offsets.Offsets.the-variants.{Range, Refused as NoRange}
 use Rattle.fit.proofs.Ends.{low-is, high-is}
 use Rattle.fit.proofs.Misfits.{wiring-exactly}
@@ -40,10 +36,10 @@ module _ (n : ℕ) (x y : ℕ → ℤ) (s : ℕ) where
   past-all h = rw (le-ltb s n h)
 
   module _ (h : s < n) where
-    pub empty-range : ltZ (rangeOf n x y s .high) (rangeOf n x y s .low) ≡ true → rangeFound n x y s ≡ NoRange (NoOffset (lowestAt n x y s) (highestAt n x y s))
+    pub empty-range : isEmpty (rangeOf n x y s) ≡ true → rangeFound n x y s ≡ NoRange (NoOffset (lowestAt n x y s) (highestAt n x y s))
     empty-range e = rw (lt-ltb s n h, e)
 
-    pub some-range : ltZ (rangeOf n x y s .high) (rangeOf n x y s .low) ≡ false → rangeFound n x y s ≡ Range (rangeOf n x y s)
+    pub some-range : isEmpty (rangeOf n x y s) ≡ false → rangeFound n x y s ≡ Range (rangeOf n x y s)
     some-range e = rw (lt-ltb s n h, e)
 
 module _ (a b : List ℤ) (s : ℕ) where
@@ -93,7 +89,7 @@ module _ (a b : List ℤ) (s : ℕ) where
     first-high : s < n → FirstHigh a b s (highestAt n x y s)
     first-high h = let l = smallest-law (highEnd x y s) (n - s - 1) in record { inside = omega (arith, l .within); lowest = λ j g. l .bounds j (omega arith); first = l .first }
 
-    none-answer : s < n → ltZ (rangeOf n x y s .high) (rangeOf n x y s .low) ≡ true → OffsetsAnswer a b s (NoRange (NoOffset (lowestAt n x y s) (highestAt n x y s)))
+    none-answer : s < n → isEmpty (rangeOf n x y s) ≡ true → OffsetsAnswer a b s (NoRange (NoOffset (lowestAt n x y s) (highestAt n x y s)))
     none-answer h e =
         record {
           answer = rw (tracks-accepted a b s k) (sym (empty-range n x y s h e));
@@ -106,7 +102,7 @@ module _ (a b : List ℤ) (s : ℕ) where
           accepts = ((λ z. absurd (omega arith)), (λ z. absurd (none-fits n x y s h .0 e (z .1 .0) (wired (z .1 .0) .0 (z .1 .1)))));
         }
 
-    some-answer : s < n → ltZ (rangeOf n x y s .high) (rangeOf n x y s .low) ≡ false → OffsetsAnswer a b s (Range (rangeOf n x y s))
+    some-answer : s < n → isEmpty (rangeOf n x y s) ≡ false → OffsetsAnswer a b s (Range (rangeOf n x y s))
     some-answer h e =
         record {
           answer = rw (tracks-accepted a b s k) (sym (some-range n x y s h e));
@@ -122,52 +118,30 @@ module _ (a b : List ℤ) (s : ℕ) where
     pub range-answer : OffsetsAnswer a b s (rangeFound n x y s)
     range-answer = go (decLt s n)
       where
-        tested : s < n → (t : Bool) → ltZ (rangeOf n x y s .high) (rangeOf n x y s .low) ≡ t → OffsetsAnswer a b s (rangeFound n x y s)
+        tested : s < n → (t : Bool) → isEmpty (rangeOf n x y s) ≡ t → OffsetsAnswer a b s (rangeFound n x y s)
         tested h true e = rw (empty-range n x y s h e) (none-answer h e)
         tested h false e = rw (some-range n x y s h e) (some-answer h e)
 
         go : Dec (s < n) → OffsetsAnswer a b s (rangeFound n x y s)
-        go (yes h) = tested h (ltZ (rangeOf n x y s .high) (rangeOf n x y s .low)) refl
+        go (yes h) = tested h (isEmpty (rangeOf n x y s)) refl
         go (no h) = let g : n ≤ s = omega arith in rw (past-all n x y s g) (whole-answer g)
 
--- the search for the first pair that sets an end: it isn't past, and the test tells whether it is reached
-module _ (a b : List ℤ) (s i : ℕ) (h : s < length a) where
-  pub low-inside : i ≤ lowestAt (length a) (leanOf a) (leanOf b) s → i + s < length a
-  low-inside k = omega (arith, largest-law (lowEnd (leanOf a) (leanOf b) s) (length a - s - 1) .within)
-
-  pub high-inside : i ≤ highestAt (length a) (leanOf a) (leanOf b) s → i + s < length a
-  high-inside k = omega (arith, smallest-law (highEnd (leanOf a) (leanOf b) s) (length a - s - 1) .within)
-
-  pub low-before : i ≤ lowestAt (length a) (leanOf a) (leanOf b) s → ltZ (lowEnd (leanOf a) (leanOf b) s i) (rangeOf (length a) (leanOf a) (leanOf b) s .low) ≡ true → i < lowestAt (length a) (leanOf a) (leanOf b) s
-  low-before k e =
-      let f = lowEnd (leanOf a) (leanOf b) s in
-      ⊎-elim (λ g. absurd (omega (arithℤ, true-lt (f i) (rangeOf (length a) (leanOf a) (leanOf b) s .low) e, ap f g))) (λ g. g) (eq-or-lt-of-le k)
-
-  pub low-here : i ≤ lowestAt (length a) (leanOf a) (leanOf b) s → ltZ (lowEnd (leanOf a) (leanOf b) s i) (rangeOf (length a) (leanOf a) (leanOf b) s .low) ≡ false → i ≡ lowestAt (length a) (leanOf a) (leanOf b) s
-  low-here k e =
-      let f = lowEnd (leanOf a) (leanOf b) s in
-      ⊎-elim (λ g. g) (λ g. absurd (omega (arithℤ, false-lt (f i) (rangeOf (length a) (leanOf a) (leanOf b) s .low) e, largest-law f (length a - s - 1) .first i g))) (eq-or-lt-of-le k)
-
-  pub high-before : i ≤ highestAt (length a) (leanOf a) (leanOf b) s → ltZ (rangeOf (length a) (leanOf a) (leanOf b) s .high) (highEnd (leanOf a) (leanOf b) s i) ≡ true → i < highestAt (length a) (leanOf a) (leanOf b) s
-  high-before k e =
-      let f = highEnd (leanOf a) (leanOf b) s in
-      ⊎-elim (λ g. absurd (omega (arithℤ, true-lt (rangeOf (length a) (leanOf a) (leanOf b) s .high) (f i) e, ap f g))) (λ g. g) (eq-or-lt-of-le k)
-
-  pub high-here : i ≤ highestAt (length a) (leanOf a) (leanOf b) s → ltZ (rangeOf (length a) (leanOf a) (leanOf b) s .high) (highEnd (leanOf a) (leanOf b) s i) ≡ false → i ≡ highestAt (length a) (leanOf a) (leanOf b) s
-  high-here k e =
-      let f = highEnd (leanOf a) (leanOf b) s in
-      ⊎-elim (λ g. g) (λ g. absurd (omega (arithℤ, false-lt (rangeOf (length a) (leanOf a) (leanOf b) s .high) (f i) e, smallest-law f (length a - s - 1) .first i g))) (eq-or-lt-of-le k)
-
--- the range is read from the gaps, s further on
+-- the range is read from the gaps, s further on, and its ends are set by the same pairs
 module _ (a b : List ℤ) (s : ℕ) where
+  pub low-at : lowestAt (length a) (leanOf a) (leanOf b) s ≡ largestAt (lowGap a b s) (length a - s - 1)
+  low-at = largest-further (lowEnd (leanOf a) (leanOf b) s) (lowGap a b s) (pos s) (λ i. sym (low-is a b s i)) (length a - s - 1)
+
+  pub high-at : highestAt (length a) (leanOf a) (leanOf b) s ≡ smallestAt (highGap a b s) (length a - s - 1)
+  high-at = smallest-further (highEnd (leanOf a) (leanOf b) s) (highGap a b s) (negℤ (pos s)) (λ i. sym (high-is a b s i)) (length a - s - 1)
+
   pub low-of-gaps : gapsOf a b s .low +ℤ pos s ≡ rangeOf (length a) (leanOf a) (leanOf b) s .low
-  low-of-gaps =
-      let f = lowEnd (leanOf a) (leanOf b) s in
-      let n = length a - s - 1 in
-      rw (largest-further f (lowGap a b s) (pos s) (λ i. sym (low-is a b s i)) n) (low-is a b s (largestAt (lowGap a b s) n))
+  low-of-gaps = rw low-at (low-is a b s (largestAt (lowGap a b s) (length a - s - 1)))
 
   pub high-of-gaps : gapsOf a b s .high -ℤ pos s ≡ rangeOf (length a) (leanOf a) (leanOf b) s .high
-  high-of-gaps =
-      let f = highEnd (leanOf a) (leanOf b) s in
-      let n = length a - s - 1 in
-      rw (smallest-further f (highGap a b s) (negℤ (pos s)) (λ i. sym (high-is a b s i)) n) (high-is a b s (smallestAt (highGap a b s) n))
+  high-of-gaps = rw high-at (high-is a b s (smallestAt (highGap a b s) (length a - s - 1)))
+
+  pub gap-of-low : rangeOf (length a) (leanOf a) (leanOf b) s .low -ℤ pos s ≡ gapsOf a b s .low
+  gap-of-low = let r = rangeOf (length a) (leanOf a) (leanOf b) s in let g = gapsOf a b s in omega (arithℤ, low-of-gaps, sum (g .low) (pos s), dif (r .low) (pos s))
+
+  pub gap-of-high : rangeOf (length a) (leanOf a) (leanOf b) s .high +ℤ pos s ≡ gapsOf a b s .high
+  gap-of-high = let r = rangeOf (length a) (leanOf a) (leanOf b) s in let g = gapsOf a b s in omega (arithℤ, high-of-gaps, dif (g .high) (pos s), sum (r .high) (pos s))

@@ -1,20 +1,17 @@
 -- The least separation at an offset (01, "Rules of fit"; refusals 1 to 5, then 7).
-use mathlib.Core.Bool.{Bool, true, false, cond}
+use mathlib.Core.Bool.{Bool, true, cond}
 use mathlib.Core.Path.{_≡_}
 use mathlib.Core.List.{List}
 use mathlib.Core.Logic.{_↔_}
-use Prim.Native.Nat.{ℕ, zero, suc, _+_, _-_, _≤_, _<_}
+use Prim.Native.Nat.{ℕ, zero, suc, _-_, _≤_, _<_}
 use lib.ListN.{length}
 use lib.IntN.{ℤ, pos}
 use Rattle.wiring.specs.Wiring.{HasWiring}
 use Rattle.wiring.specs.Fit.{leanOf}
 use Rattle.jumper.specs.Refusals.{sideNumber, refusalNumbers, nothing}
+use Rattle.jumper.specs.Rows.{unlessRefused}
 use Rattle.jumper.specs.Asked.{checkOffset, AcceptedShift}
 use Rattle.jumper.specs.declared.refusal.Numbers.{Numbers}
-use Rattle.jumper.specs.declared.refusal.Side.{Side}
-use Rattle.jumper.specs.declared.refusal.Refusal.{Refusal}
-use Rattle.jumper.specs.declared.rows.Checked.{Checked}
-use Rattle.jumper.specs.declared.rows.Checked.the-variants.{Accepted, Refused}
 use Rattle.fit.specs.Misfit.{tooRight, tooLeft, misfitOf, Witness}
 use Rattle.fit.specs.declared.misfit.Misfit.{Misfit}
 use Rattle.fit.specs.declared.misfit.Misfit.the-variants.{None, At}
@@ -38,17 +35,13 @@ leastOf x y d zero = zero
 leastOf x y d (suc n) = cond (breaksAt x y (leastOf x y d n) d (n - leastOf x y d n)) (suc (leastOf x y d n)) (leastOf x y d n)
 
 -- a separation above 0 with the witness at one track fewer, which is always there
-abbrev pub shown : ℕ → Misfit → Least
-shown zero m = Straight
-shown (suc s) None = Straight
-shown (suc s) (At i k) = Tracks (suc s) i k
-
-abbrev pub unlessRefused : Checked → Least → Least
-unlessRefused Accepted l = l
-unlessRefused (Refused r) l = NoLeast r
+abbrev pub withWitness : ℕ → Misfit → Least
+withWitness zero m = Straight
+withWitness (suc s) None = Straight
+withWitness (suc s) (At i k) = Tracks (suc s) i k
 
 abbrev pub leastAnswer : (a b : List ℤ) (d : ℤ) → Least
-leastAnswer a b d = unlessRefused (checkOffset a b d) (shown (leastOf (leanOf a) (leanOf b) d (length a)) (misfitOf a b (leastOf (leanOf a) (leanOf b) d (length a) - 1) d))
+leastAnswer a b d = unlessRefused (checkOffset a b d) NoLeast (withWitness (leastOf (leanOf a) (leanOf b) d (length a)) (misfitOf a b (leastOf (leanOf a) (leanOf b) d (length a) - 1) d))
 
 -- What `least_at` promises: "the least s that fits, at most n. For s > 0 the answer also shows the witness at s - 1."
 pub record LeastAnswer (a b : List ℤ) (d : ℤ) (r : Least) : Type 0 where

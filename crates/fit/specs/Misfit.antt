@@ -26,9 +26,9 @@ tooRight x y s d i = ltZ (highEnd x y s i) d
 abbrev pub tooLeft : (x y : ℕ → ℤ) (s : ℕ) (d : ℤ) (i : ℕ) → Bool
 tooLeft x y s d i = ltZ d (lowEnd x y s i)
 
-abbrev pub rightward : Side → Bool
-rightward Right = true
-rightward Left = false
+abbrev pub isRight : Side → Bool
+isRight Right = true
+isRight Left = false
 
 abbrev pub pickMisfit : Bool → Misfit → Misfit → Misfit
 pickMisfit true m k = m
@@ -42,13 +42,13 @@ misfitFrom x y s d i (suc k) = pickMisfit (tooRight x y s d i) (At i Right) (pic
 abbrev pub misfitOf : (a b : List ℤ) (s : ℕ) (d : ℤ) → Misfit
 misfitOf a b s d = misfitFrom (leanOf a) (leanOf b) s d 0 (length a - s)
 
--- a misfit as a refusal
-abbrev pub refusing : Misfit → Checked
-refusing None = Accepted
-refusing (At i k) = Refused (NoFit i k)
+-- NOFIT, "no legal wiring at (s, d)": a misfit as a refusal
+abbrev pub noFit : Misfit → Checked
+noFit None = Accepted
+noFit (At i k) = Refused (NoFit i k)
 
 abbrev pub fitOf : (a b : List ℤ) (s : ℕ) (d : ℤ) → Checked
-fitOf a b s d = orElse (checkAsked a b s d) (refusing (misfitOf a b s d))
+fitOf a b s d = orElse (checkAsked a b s d) (noFit (misfitOf a b s d))
 
 -- the witness, by 01's numbers: pair i breaks the rule on its side (1 RIGHT, 2 LEFT), and no pair before it breaks it
 pub record Witness (a b : List ℤ) (s : ℕ) (d : ℤ) (i side : ℕ) : Type 0 where

@@ -7,19 +7,17 @@ use Prim.Native.Nat.{ℕ, _+_, _-_, _≤_, _<_}
 use lib.Dec.{ltb}
 use lib.ListN.{length}
 use lib.IntN.{ℤ, _-ℤ_}
-use lib.Signed.{ltZ, _<ℤ_, _≤ℤ_}
+use lib.Signed.{_<ℤ_, _≤ℤ_}
 use Rattle.whole.specs.Pick.{largest, smallest}
 use Rattle.wiring.specs.Wiring.{pad, HasWiring}
 use Rattle.wiring.specs.Fit.{leanOf, lowEnd, highEnd}
 use Rattle.jumper.specs.Refusals.{refusalNumbers}
+use Rattle.jumper.specs.Rows.{unlessRefused}
 use Rattle.jumper.specs.Asked.{checkTracks, AcceptedTracks}
-use Rattle.jumper.specs.Range.{Within, rangeNamed, wholeRange}
+use Rattle.jumper.specs.Range.{Within, rangeNamed, wholeRange, isEmpty}
 use Rattle.jumper.specs.Span.{lowestAt, highestAt, rangeOf}
 use Rattle.jumper.specs.declared.refusal.Numbers.{Numbers}
-use Rattle.jumper.specs.declared.refusal.Refusal.{Refusal}
 use Rattle.jumper.specs.declared.refusal.Refusal.the-variants.{NoOffset}
-use Rattle.jumper.specs.declared.rows.Checked.{Checked}
-use Rattle.jumper.specs.declared.rows.Checked.the-variants.{Accepted, Refused}
 use Rattle.jumper.specs.declared.range.OffsetRange.{OffsetRange}
 use Rattle.fit.specs.declared.offsets.Offsets.{Offsets}
 use Rattle.fit.specs.declared.offsets.Offsets.the-variants.{Range, Refused as NoRange}
@@ -46,15 +44,11 @@ pickOffsets false q r = r
 abbrev pub rangeFound : (n : ℕ) (x y : ℕ → ℤ) (s : ℕ) → Offsets
 rangeFound n x y s =
     pickOffsets (ltb s n)
-    (pickOffsets (ltZ (rangeOf n x y s .high) (rangeOf n x y s .low)) (NoRange (NoOffset (lowestAt n x y s) (highestAt n x y s))) (Range (rangeOf n x y s)))
+    (pickOffsets (isEmpty (rangeOf n x y s)) (NoRange (NoOffset (lowestAt n x y s) (highestAt n x y s))) (Range (rangeOf n x y s)))
     (Range wholeRange)
 
-abbrev pub unlessRefused : Checked → Offsets → Offsets
-unlessRefused Accepted q = q
-unlessRefused (Refused r) q = NoRange r
-
 abbrev pub offsetsAnswer : (a b : List ℤ) (s : ℕ) → Offsets
-offsetsAnswer a b s = unlessRefused (checkTracks a b s) (rangeFound (length a) (leanOf a) (leanOf b) s)
+offsetsAnswer a b s = unlessRefused (checkTracks a b s) NoRange (rangeFound (length a) (leanOf a) (leanOf b) s)
 
 -- pair i is the first that sets the low end, and the first that sets the high end
 pub record FirstLow (a b : List ℤ) (s i : ℕ) : Type 0 where

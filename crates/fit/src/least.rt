@@ -1,8 +1,5 @@
 // The least separation at an offset.
 ghost use mathlib.Core.Path.{_≡_};
-ghost use Prim.Native.Nat.{_+_, _-_, _≤_, _<_};
-ghost use lib.ListN.{length};
-ghost use Rattle.wiring.specs.Fit.{leanOf};
 ghost use Rattle.jumper.specs.Asked.{AcceptedShift};
 ghost use Rattle.fit.specs.Least.{leastNumbers, LeastAnswer};
 use crate::misfit::Misfit;
@@ -51,13 +48,13 @@ pub fn least_at(a: &[i32], b: &[i32], d: i32) -> Least
 {
     match check_offset(a, b, d) {
         Checked::Refused(r) => Least::Refused(r),
-        Checked::Accepted => climb(a, b, d),
+        Checked::Accepted => seek_least(a, b, d),
     }
 }
 
 // One pass over the pairs (003, theorem 3): at each misfit one track more. The pairs before it stay free, and the last misfit is the witness at
 // one track fewer.
-fn climb(a: &[i32], b: &[i32], d: i32) -> Least
+fn seek_least(a: &[i32], b: &[i32], d: i32) -> Least
     requires { ⌜ AcceptedShift (now a) (now b) d ⌝ }
     ensures { λ r. ⌜ LeastAnswer (now (a .entry)) (now (b .entry)) d r ⌝ }
 {

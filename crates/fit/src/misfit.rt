@@ -4,7 +4,7 @@ ghost use Prim.Native.Nat.{_+_, _-_, _≤_, _<_};
 ghost use lib.ListN.{length};
 ghost use Rattle.wiring.specs.Fit.{leanOf};
 ghost use Rattle.jumper.specs.Asked.{Asked, AcceptedShift};
-ghost use Rattle.fit.specs.Misfit.{tooRight, tooLeft, rightward, misfitFrom, misfitOf, FitAnswer};
+ghost use Rattle.fit.specs.Misfit.{tooRight, tooLeft, isRight, misfitFrom, misfitOf, FitAnswer};
 use crate::offsets::range_of;
 use jumper::asked::check_asked;
 use jumper::refusal::Refusal;
@@ -18,7 +18,7 @@ pub enum Misfit {
 }
 
 pub(crate) fn is_right(side: Side) -> bool
-    ensures { λ r. ⌜ r ≡ rightward side ⌝ }
+    ensures { λ r. ⌜ r ≡ isRight side ⌝ }
 {
     match side {
         Side::Right => true,
@@ -47,7 +47,7 @@ pub(crate) fn misfit_from(a: &[i32], b: &[i32], s: usize, d: i32, from: usize) -
 {
     let n = a.len();
     let mut i: usize = from;
-    while i + s < n {
+    while i + s + 1 <= n {
         if too_right(a, b, s, d, i) {
             return Misfit::At(i, Side::Right);
         }

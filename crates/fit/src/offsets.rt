@@ -1,8 +1,8 @@
 // The offset range at a separation.
 ghost use mathlib.Core.Path.{_≡_};
-ghost use Prim.Native.Nat.{_+_, _-_, _≤_, _<_};
+ghost use Prim.Native.Nat.{_+_, _-_, _<_};
 ghost use lib.ListN.{length};
-ghost use Rattle.wiring.specs.Fit.{leanOf, lowEnd, highEnd};
+ghost use Rattle.wiring.specs.Fit.{leanOf};
 ghost use Rattle.jumper.specs.Asked.{AcceptedTracks};
 ghost use Rattle.jumper.specs.Span.{lowestAt, highestAt, rangeOf};
 ghost use Rattle.fit.specs.Offsets.{lowGap, highGap, gapsOf, offsetsNumbers, rangeFound, OffsetsAnswer};
@@ -65,20 +65,6 @@ fn high_gap(a: &[i32], b: &[i32], s: usize, i: usize) -> i32
     a[i + s] - b[i]
 }
 
-fn low_end(a: &[i32], b: &[i32], s: usize, i: usize) -> i32
-    requires { ⌜ AcceptedTracks (now a) (now b) s × (i + s < length (now a)) ⌝ }
-    ensures { λ r. ⌜ r ≡ lowEnd (leanOf (now (a .entry))) (leanOf (now (b .entry))) s i ⌝ }
-{
-    a[i] - b[i + s] + s as i32
-}
-
-fn high_end(a: &[i32], b: &[i32], s: usize, i: usize) -> i32
-    requires { ⌜ AcceptedTracks (now a) (now b) s × (i + s < length (now a)) ⌝ }
-    ensures { λ r. ⌜ r ≡ highEnd (leanOf (now (a .entry))) (leanOf (now (b .entry))) s i ⌝ }
-{
-    a[i + s] - b[i] - s as i32
-}
-
 // The largest low gap and the smallest high gap.
 fn gaps_of(a: &[i32], b: &[i32], s: usize) -> OffsetRange
     requires { ⌜ AcceptedTracks (now a) (now b) s × (s < length (now a)) ⌝ }
@@ -115,8 +101,9 @@ fn low_place(a: &[i32], b: &[i32], s: usize, low: i32) -> usize
     requires { ⌜ AcceptedTracks (now a) (now b) s × (s < length (now a)) × (low ≡ rangeOf (length (now a)) (leanOf (now a)) (leanOf (now b)) s .low) ⌝ }
     ensures { λ r. ⌜ r ≡ lowestAt (length (now (a .entry))) (leanOf (now (a .entry))) (leanOf (now (b .entry))) s ⌝ }
 {
+    let gap = low - s as i32;
     let mut i: usize = 0;
-    while low_end(a, b, s, i) < low {
+    while low_gap(a, b, s, i) < gap {
         i += 1;
     }
     i
@@ -127,8 +114,9 @@ fn high_place(a: &[i32], b: &[i32], s: usize, high: i32) -> usize
     requires { ⌜ AcceptedTracks (now a) (now b) s × (s < length (now a)) × (high ≡ rangeOf (length (now a)) (leanOf (now a)) (leanOf (now b)) s .high) ⌝ }
     ensures { λ r. ⌜ r ≡ highestAt (length (now (a .entry))) (leanOf (now (a .entry))) (leanOf (now (b .entry))) s ⌝ }
 {
+    let gap = high + s as i32;
     let mut i: usize = 0;
-    while high < high_end(a, b, s, i) {
+    while gap < high_gap(a, b, s, i) {
         i += 1;
     }
     i
@@ -142,11 +130,9 @@ fn range_found(a: &[i32], b: &[i32], s: usize) -> Offsets
         return Offsets::Range(OffsetRange::whole());
     }
     let r = range_of(a, b, s);
-    let low = r.low;
-    let high = r.high;
-    if high < low {
-        let i = low_place(a, b, s, low);
-        let j = high_place(a, b, s, high);
+    if r.is_empty() {
+        let i = low_place(a, b, s, r.low);
+        let j = high_place(a, b, s, r.high);
         return Offsets::Refused(Refusal::NoOffset(i, j));
     }
     Offsets::Range(r)

@@ -12,23 +12,25 @@ use lib.Signed.{ltZ, leZ}
 use Rattle.whole.proofs.Order.{untrue}
 use Rattle.wiring.specs.Fit.{leanOf}
 use Rattle.jumper.specs.Limits.{maxPairs, maxTracks, firstColumn, lastColumn, lowestOffset, highestOffset}
-use Rattle.jumper.specs.Rows.{checkedNumbers, pick, orElse, faultAfter, rowFault, checkRows}
+use Rattle.jumper.specs.Refusals.{refusalNumbers}
+use Rattle.jumper.specs.Rows.{checkedNumbers, pick, unlessRefused, orElse, faultAfter, rowFault, checkRows}
 use Rattle.jumper.specs.Asked.{tracksFault, offsetFault, checkTracks, checkOffset, checkAsked}
 use Rattle.jumper.specs.Span.{rangeOf}
+use Rattle.jumper.specs.declared.refusal.Refusal.{Refusal}
 use Rattle.jumper.specs.declared.refusal.Refusal.the-variants.{Unequal, Empty, Long, Column, Order, Tracks as NoTracks, Offset}
 use Rattle.jumper.specs.declared.rows.Checked.{Checked}
 use Rattle.jumper.specs.declared.rows.Checked.the-variants.{Accepted, Refused}
-use Rattle.fit.specs.Misfit.{misfitOf, refusing, fitOf}
-use Rattle.fit.specs.Least.{leastNumbers, leastOf, shown, unlessRefused, leastAnswer}
+use Rattle.fit.specs.Misfit.{misfitOf, noFit, fitOf}
+use Rattle.fit.specs.Least.{leastNumbers, leastOf, withWitness, leastAnswer}
 use Rattle.fit.specs.Offsets.{offsetsNumbers, pickOffsets, rangeFound, offsetsAnswer}
-use Rattle.fit.specs.Offsets.{unlessRefused as unlessNone}
 use Rattle.fit.specs.declared.misfit.Misfit.{Misfit}
 use Rattle.fit.specs.declared.misfit.Misfit.the-variants.{None, At}
-use Rattle.fit.specs.declared.least.Least.{Least}
+use Rattle.fit.specs.declared.least.Least.the-variants.{Refused as NoLeast}
 use Rattle.fit.specs.declared.offsets.Offsets.{Offsets}
+use Rattle.fit.specs.declared.offsets.Offsets.the-variants.{Refused as NoRange}
 use Rattle.best.specs.Best.{bestNumbers, plannedOf, ladderOf, roomOr, bestAnswer}
-use Rattle.best.specs.Best.{unlessRefused as unlessRows}
 use Rattle.best.specs.declared.plan.Planned.{Planned}
+use Rattle.best.specs.declared.plan.Best.the-variants.{Refused as NoBest}
 
 -- a refusal's number, or 0, as the calls give it for rows a and b
 pub record Known (a b : List ℤ) (n : ℕ) : Type 0 where
@@ -75,18 +77,20 @@ module _ (a b : List ℤ) where
   told-tracks : (s : ℕ) → Told (checkTracks a b s)
   told-tracks s = told-or (checkRows a b) (tracksFault s) told-rows (told-pick (ltb maxTracks s) (Refused NoTracks) Accepted (λ t. record { few = omega arith; equal = λ e z. omega arith }) (λ t. fine))
 
-  told-misfit : (m : Misfit) → Told (refusing m)
+  told-misfit : (m : Misfit) → Told (noFit m)
   told-misfit None = fine
   told-misfit (At i k) = record { few = omega arith; equal = λ e z. omega arith }
 
   pub known-fit : (s : ℕ) (d : ℤ) → Known a b (checkedNumbers (fitOf a b s d) .refusal)
-  known-fit s d = told-or (checkAsked a b s d) (refusing (misfitOf a b s d)) (told-or (checkTracks a b s) (offsetFault d) (told-tracks s) (told-offset d)) (told-misfit (misfitOf a b s d))
+  known-fit s d = told-or (checkAsked a b s d) (noFit (misfitOf a b s d)) (told-or (checkTracks a b s) (offsetFault d) (told-tracks s) (told-offset d)) (told-misfit (misfitOf a b s d))
 
-  known-unless : (c : Checked) (l : Least) → Told c → Known a b (leastNumbers l .refusal) → Known a b (leastNumbers (unlessRefused c l) .refusal)
-  known-unless Accepted l h k = k
-  known-unless (Refused r) l h k = h
+  -- the number of what comes after a check
+  known-unless : {X : Type 0} (number : X → ℕ) (refused : Refusal → X) → ((r : Refusal) → number (refused r) ≡ refusalNumbers r .refusal)
+      → (c : Checked) (x : X) → Told c → Known a b (number x) → Known a b (number (unlessRefused c refused x))
+  known-unless number refused same Accepted x h k = k
+  known-unless number refused same (Refused r) x h k = rw (same r) h
 
-  known-shown : (s : ℕ) (m : Misfit) → Known a b (leastNumbers (shown s m) .refusal)
+  known-shown : (s : ℕ) (m : Misfit) → Known a b (leastNumbers (withWitness s m) .refusal)
   known-shown zero m = fine
   known-shown (suc s) None = fine
   known-shown (suc s) (At i k) = fine
@@ -94,11 +98,7 @@ module _ (a b : List ℤ) where
   pub known-least : (d : ℤ) → Known a b (leastNumbers (leastAnswer a b d) .refusal)
   known-least d =
       let s = leastOf (leanOf a) (leanOf b) d (length a) in
-      known-unless (checkOffset a b d) (shown s (misfitOf a b (s - 1) d)) (told-or (checkRows a b) (offsetFault d) told-rows (told-offset d)) (known-shown s (misfitOf a b (s - 1) d))
-
-  known-none : (c : Checked) (q : Offsets) → Told c → Known a b (offsetsNumbers q .refusal) → Known a b (offsetsNumbers (unlessNone c q) .refusal)
-  known-none Accepted q h k = k
-  known-none (Refused r) q h k = h
+      known-unless (λ l. leastNumbers l .refusal) NoLeast (λ r. refl) (checkOffset a b d) (withWitness s (misfitOf a b (s - 1) d)) (told-or (checkRows a b) (offsetFault d) told-rows (told-offset d)) (known-shown s (misfitOf a b (s - 1) d))
 
   known-pick : (t : Bool) (q r : Offsets) → Known a b (offsetsNumbers q .refusal) → Known a b (offsetsNumbers r .refusal) → Known a b (offsetsNumbers (pickOffsets t q r) .refusal)
   known-pick true q r h k = h
@@ -109,13 +109,14 @@ module _ (a b : List ℤ) where
       let n = length a in
       let x = leanOf a in
       let y = leanOf b in
-      known-none (checkTracks a b s) (rangeFound n x y s) (told-tracks s)
+      known-unless (λ q. offsetsNumbers q .refusal) NoRange (λ r. refl) (checkTracks a b s) (rangeFound n x y s) (told-tracks s)
       (known-pick (ltb s n) _ _ (known-pick (ltZ (rangeOf n x y s .high) (rangeOf n x y s .low)) _ _ (record { few = omega arith; equal = λ e z. omega arith }) fine) fine)
 
-  known-rows : (c : Checked) (t : Bool) (p : Planned) → Told c → Known a b (bestNumbers (unlessRows c (roomOr t p)) .refusal)
-  known-rows (Refused r) t p h = h
-  known-rows Accepted true p h = record { few = omega arith; equal = λ e z. omega arith }
-  known-rows Accepted false p h = fine
+  known-room : (t : Bool) (p : Planned) → Known a b (bestNumbers (roomOr t p) .refusal)
+  known-room true p = record { few = omega arith; equal = λ e z. omega arith }
+  known-room false p = fine
 
   pub known-best : (before : List ℕ) → Known a b (bestNumbers (bestAnswer a b before) .refusal)
-  known-best before = known-rows (checkRows a b) (ltb (length before) (length (ladderOf a b))) (plannedOf a b) told-rows
+  known-best before =
+      let t = ltb (length before) (length (ladderOf a b)) in
+      known-unless (λ q. bestNumbers q .refusal) NoBest (λ r. refl) (checkRows a b) (roomOr t (plannedOf a b)) told-rows (known-room t (plannedOf a b))

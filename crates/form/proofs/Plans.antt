@@ -14,7 +14,7 @@ use Rattle.wiring.specs.Wiring.{HasWiring}
 use Rattle.wiring.specs.Fit.{leanOf, half}
 use Rattle.jumper.specs.Limits.{maxLadder, AcceptedOffset}
 use Rattle.jumper.specs.Refusals.{sideNumber, refusalNumbers}
-use Rattle.jumper.specs.Rows.{AcceptedRows, checkRows}
+use Rattle.jumper.specs.Rows.{AcceptedRows, unlessRefused, checkRows}
 use Rattle.jumper.specs.Asked.{checkOffset, AcceptedTracks}
 use Rattle.jumper.specs.Span.{rangeOf}
 use Rattle.jumper.specs.declared.refusal.Refusal.{Refusal}
@@ -26,7 +26,7 @@ use Rattle.jumper.proofs.Accepted.{numbered}
 use Rattle.jumper.proofs.Wired.{wired-accepted}
 use Rattle.jumper.proofs.Checks.{Early, tracks-accepted, early-shift, early-rows}
 use Rattle.fit.specs.Misfit.{misfitOf, FitAnswer}
-use Rattle.fit.specs.Least.{leastNumbers, leastOf, shown, unlessRefused, leastAnswer, LeastAnswer}
+use Rattle.fit.specs.Least.{leastNumbers, leastOf, withWitness, leastAnswer, LeastAnswer}
 use Rattle.fit.specs.Offsets.{offsetsNumbers, offsetsAnswer, rangeFound, OffsetsAnswer}
 use Rattle.fit.specs.declared.misfit.Misfit.{Misfit}
 use Rattle.fit.specs.declared.misfit.Misfit.the-variants.{None, At}
@@ -37,7 +37,6 @@ use Rattle.fit.specs.declared.offsets.Offsets.the-variants.{Range as Offered, R
 use Rattle.fit.proofs.Spans.{past-all, empty-range, some-range}
 use Rattle.best.specs.Halving.{levels}
 use Rattle.best.specs.Best.{bestNumbers, bestAnswer, ladderOf, plannedOf, roomOr, BestAnswer}
-use Rattle.best.specs.Best.{unlessRefused as unlessRows}
 use Rattle.best.specs.declared.plan.Best.{Best}
 use Rattle.best.specs.declared.plan.Best.the-variants.{Found, Refused as NoBest}
 use Rattle.best.proofs.Levels.{one-level, more-levels}
@@ -53,7 +52,7 @@ least-never a b d r e z =
     let s = leastOf (leanOf a) (leanOf b) d (length a) in
     go (checkOffset a b d) (early-shift a b d) s (misfitOf a b (s - 1) d) (ap (λ (l : Least). leastNumbers l .refusal) e)
   where
-    go : (c : Checked) → Early 7 c → (s : ℕ) (m : Misfit) → refusalNumbers r .refusal ≡ leastNumbers (unlessRefused c (shown s m)) .refusal → ⊥
+    go : (c : Checked) → Early 7 c → (s : ℕ) (m : Misfit) → refusalNumbers r .refusal ≡ leastNumbers (unlessRefused c NoLeast (withWitness s m)) .refusal → ⊥
     go (Refused q) l s m e = omega arith
     go Accepted l zero m e = omega arith
     go Accepted l (suc s) None e = omega arith
@@ -63,7 +62,7 @@ least-never a b d r e z =
 best-never : (a b : List ℤ) (before : List ℕ) (r : Refusal) → NoBest r ≡ bestAnswer a b before → refusalNumbers r .refusal ≡ 11 → ⊥
 best-never a b before r e z = go (checkRows a b) (early-rows a b) (ltb (length before) (length (ladderOf a b))) (ap (λ (q : Best). bestNumbers q .refusal) e)
   where
-    go : (c : Checked) → Early 5 c → (t : Bool) → refusalNumbers r .refusal ≡ bestNumbers (unlessRows c (roomOr t (plannedOf a b))) .refusal → ⊥
+    go : (c : Checked) → Early 5 c → (t : Bool) → refusalNumbers r .refusal ≡ bestNumbers (unlessRefused c NoBest (roomOr t (plannedOf a b))) .refusal → ⊥
     go (Refused q) l t e = omega arith
     go Accepted l true e = omega arith
     go Accepted l false e = omega arith

@@ -1,8 +1,7 @@
 -- The checks 1 to 7 accept exactly what 01 accepts; and a check after another, by the first one's answer.
-use mathlib.Core.Path.{_≡_, refl, sym, ap, _∙_}
+use mathlib.Core.Path.{_≡_, sym, _∙_}
 use mathlib.Core.Bool.{Bool, true, false}
 use mathlib.Core.List.{List, [], _∷_}
-use mathlib.Core.Logic.{_↔_}
 use Prim.Native.Nat.{ℕ, _+_, _≤_}
 use native.Mathlib.Omega.{arith}
 use borrow.Author.Tests.{ltb-false, le-ltb}
@@ -13,7 +12,7 @@ use lib.Signed.{ltZ, leZ}
 use Rattle.whole.proofs.Order.{false-lt, lt-false}
 use Rattle.jumper.specs.Limits.{maxPairs, firstColumn, lastColumn, maxTracks, lowestOffset, highestOffset, AcceptedOffset}
 use Rattle.jumper.specs.Refusals.{refusalNumbers}
-use Rattle.jumper.specs.Rows.{AcceptedRows, checkedNumbers, pick, orElse, faultAfter, rowFault, checkRows}
+use Rattle.jumper.specs.Rows.{pick, orElse, faultAfter, rowFault, checkRows}
 use Rattle.jumper.specs.Asked.{tracksFault, offsetFault, checkTracks, checkOffset, checkAsked, AcceptedTracks, AcceptedShift, Asked, TracksCheck, OffsetCheck, AskedCheck}
 use Rattle.jumper.specs.declared.refusal.Refusal.{Refusal}
 use Rattle.jumper.specs.declared.refusal.Refusal.the-variants.{Unequal, Empty, Long, Column, Order, Tracks, Offset}

@@ -1,28 +1,18 @@
 -- What a range of offsets holds: empty means that no whole number is in it, and a meet holds what both hold.
-use mathlib.Core.Path.{_≡_, refl, sym, _∙_}
-use mathlib.Core.Bool.{Bool, true, false}
+use mathlib.Core.Path.{_≡_}
+use mathlib.Core.Bool.{true}
 use mathlib.Core.Logic.{_↔_, ⊎-elim}
 use lib.IntN.{ℤ}
-use lib.Signed.{_≤ℤ_, _<ℤ_, ltZ}
 use Rattle.whole.proofs.Arith.{up, down, arithℤ, ≤-or-<}
 use Rattle.whole.proofs.Order.{true-lt, lt-true, larger-law, smaller-law}
-use Rattle.jumper.specs.Range.{Within, meetOf}
+use Rattle.jumper.specs.Range.{Within, isEmpty, meetOf}
 use Rattle.jumper.specs.declared.range.OffsetRange.{OffsetRange}
 
-pub empty-exactly : (r : OffsetRange) → (ltZ (r .high) (r .low) ≡ true) ↔ ((d : ℤ) → Within d r → ⊥)
+pub empty-exactly : (r : OffsetRange) → (isEmpty r ≡ true) ↔ ((d : ℤ) → Within d r → ⊥)
 empty-exactly r = (
   (λ e d w. omega (arithℤ, true-lt (r .high) (r .low) e, w .low, w .high)),
   (λ none. ⊎-elim (λ h. absurd (none (r .low) (record { low = omega arithℤ; high = h }))) (λ h. lt-true (r .high) (r .low) h) (≤-or-< (r .low) (r .high))),
 )
-
--- so that whoever asks `is_empty` knows the test
-pub empty-test : (r : OffsetRange) (b : Bool) → (b ≡ true) ↔ ((d : ℤ) → Within d r → ⊥) → b ≡ ltZ (r .high) (r .low)
-empty-test r true e = sym (empty-exactly r .1 (e .0 refl))
-empty-test r false e = go (ltZ (r .high) (r .low)) refl
-  where
-    go : (t : Bool) → ltZ (r .high) (r .low) ≡ t → false ≡ ltZ (r .high) (r .low)
-    go true q = e .1 (empty-exactly r .0 q) ∙ sym q
-    go false q = sym q
 
 pub meet-exactly : (r s : OffsetRange) (d : ℤ) → Within d (meetOf r s) ↔ (Within d r × Within d s)
 meet-exactly r s d =

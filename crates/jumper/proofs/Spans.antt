@@ -4,7 +4,7 @@ use mathlib.Core.Bool.{true}
 use mathlib.Core.Logic.{_↔_}
 use Prim.Native.Nat.{ℕ, _+_, _-_, _*_, _≤_, _<_}
 use native.Mathlib.Omega.{arith}
-use lib.IntN.{ℤ, _-ℤ_}
+use lib.IntN.{ℤ}
 use lib.Signed.{_≤ℤ_, ltZ}
 use Rattle.whole.proofs.Arith.{up, down, arithℤ, dif}
 use Rattle.whole.proofs.Extremes.{largest-law, smallest-law}

@@ -1,6 +1,7 @@
 -- A range of offsets (01: "An offset range knows of itself: the range of every offset, whether it is empty, its meet with another").
+use mathlib.Core.Bool.{Bool}
 use lib.IntN.{ℤ}
-use lib.Signed.{_≤ℤ_}
+use lib.Signed.{_≤ℤ_, ltZ}
 use Rattle.whole.specs.Pick.{largerOf, smallerOf}
 use Rattle.jumper.specs.Limits.{lowestOffset, highestOffset}
 use Rattle.jumper.specs.declared.refusal.Numbers.{Numbers}
@@ -17,6 +18,9 @@ rangeNamed k = record { low = k .lowest; high = k .highest }
 
 abbrev pub wholeRange : OffsetRange
 wholeRange = record { low = lowestOffset; high = highestOffset }
+
+abbrev pub isEmpty : OffsetRange → Bool
+isEmpty r = ltZ (r .high) (r .low)
 
 abbrev pub meetOf : OffsetRange → OffsetRange → OffsetRange
 meetOf r s = record { low = largerOf (r .low) (s .low); high = smallerOf (r .high) (s .high) }

@@ -1,6 +1,6 @@
 -- 01, "What comes back": the number of each refusal, and the result numbers that it carries; all others are 0.
 use Prim.Native.Nat.{ℕ}
-use lib.IntN.{ℤ, pos}
+use lib.IntN.{pos}
 use Rattle.jumper.specs.declared.refusal.Side.{Side}
 use Rattle.jumper.specs.declared.refusal.Side.the-variants.{Right, Left}
 use Rattle.jumper.specs.declared.refusal.Refusal.{Refusal}

@@ -40,10 +40,14 @@ abbrev pub pick : Bool → Checked → Checked → Checked
 pick true r s = r
 pick false r s = s
 
+-- what comes after a check: where it refuses, what is made of its refusal, else x
+abbrev pub unlessRefused : {X : Type 0} → Checked → (Refusal → X) → X → X
+unlessRefused Accepted f x = x
+unlessRefused (Refused r) f x = f r
+
 -- the first check's refusal, else the second check's answer
 abbrev pub orElse : Checked → Checked → Checked
-orElse Accepted s = s
-orElse (Refused r) s = Refused r
+orElse r s = unlessRefused r Refused s
 
 -- "COLUMN before ORDER at each place, the first fault deciding": of columns of which the first has place k and stands after a column p
 unfoldable pub faultAfter : ℤ → ℕ → List ℤ → Checked

@@ -4,7 +4,7 @@ ghost use mathlib.Core.Bool.{true};
 ghost use mathlib.Core.Logic.{_↔_};
 ghost use lib.IntN.{ℤ};
 ghost use Rattle.jumper.specs.Limits.{AcceptedOffset};
-ghost use Rattle.jumper.specs.Range.{Within, wholeRange, meetOf};
+ghost use Rattle.jumper.specs.Range.{Within, wholeRange, isEmpty, meetOf};
 
 pub struct OffsetRange {
     pub low: i32,
@@ -28,7 +28,8 @@ impl OffsetRange {
     }
 
     pub fn is_empty(self) -> bool
-        ensures { λ r. ⌜ ((r ≡ true) ↔ ((d : ℤ) → Within d self → ⊥)) ⌝ }
+        ensures answer { λ r. ⌜ r ≡ isEmpty self ⌝ }
+        ensures meaning { λ r. ⌜ ((r ≡ true) ↔ ((d : ℤ) → Within d self → ⊥)) ⌝ }
     {
         self.high < self.low
     }

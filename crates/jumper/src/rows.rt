@@ -1,11 +1,12 @@
 // The row check (01, refusals 1 to 5).
 ghost use mathlib.Core.Path.{_≡_};
-ghost use mathlib.Core.Bool.{true};
+ghost use mathlib.Core.Bool.{true, false};
+ghost use mathlib.Core.Logic.{_↔_};
 ghost use Prim.Native.Nat.{_≤_, _<_};
 ghost use lib.ListN.{length};
 ghost use Rattle.wiring.specs.Wiring.{pad};
 ghost use Rattle.wiring.specs.Fit.{Rising};
-ghost use Rattle.jumper.specs.Limits.{maxPairs};
+ghost use Rattle.jumper.specs.Limits.{maxPairs, AcceptedColumn};
 ghost use Rattle.jumper.specs.Rows.{AcceptedRow, checkedNumbers, rowFault, RowCheck};
 use crate::limits::FIRST_COLUMN;
 use crate::limits::LAST_COLUMN;
@@ -67,6 +68,16 @@ fn is_sound(a: &[i32]) -> bool
     true
 }
 
+// Whether a column is out of range.
+fn out_of_range(x: i32) -> bool
+    ensures { λ r. ⌜ (r ≡ false) ↔ AcceptedColumn x ⌝ }
+{
+    if x < FIRST_COLUMN {
+        return true;
+    }
+    LAST_COLUMN < x
+}
+
 // The search for the first fault of a row whose first column has the place `base`.
 fn seek_fault(a: &[i32], base: usize) -> Checked
     requires { ⌜ (base ≤ maxPairs) × (length (now a) ≤ maxPairs) ⌝ }
@@ -76,13 +87,12 @@ fn seek_fault(a: &[i32], base: usize) -> Checked
     let mut before: i32 = FIRST_COLUMN - 1;
     while i < a.len() {
         let x = a[i];
-        if x < FIRST_COLUMN {
+        let outside = out_of_range(x);
+        let not_above = x <= before;
+        if outside {
             return Checked::Refused(Refusal::Column(base + i));
         }
-        if LAST_COLUMN < x {
-            return Checked::Refused(Refusal::Column(base + i));
-        }
-        if x <= before {
+        if not_above {
             return Checked::Refused(Refusal::Order(base + i));
         }
         before = x;

@@ -11,7 +11,7 @@ use lib.Seq.{take-at}
 use lib.IntN.{ℤ}
 use Rattle.wiring.specs.Wiring.{at, Legal, pad, topPad, HasWiring}
 use Rattle.wiring.specs.Fit.{Rising}
-use Rattle.wiring.specs.Table.{climb, wireOf, LegalTable}
+use Rattle.wiring.specs.Table.{upFrom, wireOf, LegalTable}
 use Rattle.wiring.proofs.Theorem.{shifted-rising, drawing-legal}
 use Rattle.jumper.specs.Rows.{AcceptedRows, checkedNumbers}
 use Rattle.jumper.specs.Asked.{checkAsked, Asked}
@@ -25,20 +25,21 @@ use Rattle.fit.specs.Misfit.{FitAnswer}
 use Rattle.fit.proofs.Misfits.{wiring-exactly}
 use Rattle.route.specs.Table.{columnIn, columns, wires, LegalRoute}
 use Rattle.route.specs.Draw.{drawnOf, drawnWires, wireDrawn, allDrawn, DrawWireAnswer, DrawAllAnswer}
-use Rattle.route.specs.Check.{NoFault, FirstFault, firstFault, RouteCheck}
+use Rattle.route.specs.Check.{NoFault, FirstFault, firstFault, routeChecked, RouteCheck}
 use Rattle.route.proofs.Places.{columns-length, columns-at, wires-length, wires-at, wires-part}
 use Rattle.route.proofs.Faults.{searched}
 use Rattle.route.proofs.Legal.{faultless-legal}
+use Rattle.route.proofs.Reading.{reads-only}
 
 -- THE SAME COLUMNS mean the same wire
-climb-same : (e f : ℕ → ℤ) (t m s : ℕ) → t + m ≡ s → ((u : ℕ) → u ≤ s → e u ≡ f u) → climb e t m ≡ climb f t m
-unfolding climb
-climb-same e f t zero s h g = refl
-climb-same e f t (suc m) s h g = rw (g t (omega arith), g (suc t) (omega arith), climb-same e f (suc t) m s (omega arith) g)
+up-same : (e f : ℕ → ℤ) (t m s : ℕ) → t + m ≡ s → ((u : ℕ) → u ≤ s → e u ≡ f u) → upFrom e t m ≡ upFrom f t m
+unfolding upFrom
+up-same e f t zero s h g = refl
+up-same e f t (suc m) s h g = rw (g t (omega arith), g (suc t) (omega arith), up-same e f (suc t) m s (omega arith) g)
 
 pub wire-same : (e f : ℕ → ℤ) (s : ℕ) → ((t : ℕ) → t ≤ s → e t ≡ f t) → wireOf e s ≡ wireOf f s
 unfolding wireOf
-wire-same e f s g = rw (g 0 (omega arith), climb-same e f 0 s s (omega arith) g)
+wire-same e f s g = rw (g 0 (omega arith), up-same e f 0 s s (omega arith) g)
 
 pub legal-same : (n s : ℕ) (a c : ℕ → ℤ) (e f : ℕ → ℕ → ℤ) → ((i t : ℕ) → i < n → t ≤ s → e i t ≡ f i t) → LegalTable n s a c e → LegalTable n s a c f
 legal-same n s a c e f g l =
@@ -55,11 +56,15 @@ top-rising {a} {b} r d = shifted-rising {b = pad b} d (rw (r .equal) (r .top .ri
 
 -- THE CHECKER
 module _ (a b : List ℤ) (s : ℕ) (d : ℤ) (table : List ℤ) where
+  reading : (r : Checked) → r ≡ routeChecked a b s d table → (other : List ℤ) → take (length a * (s + 1)) other ≡ take (length a * (s + 1)) table → r ≡ routeChecked a b s d other
+  reading r e other agree = e ∙ reads-only a b s d table other agree
+
   pub check-early : (r : Refusal) → checkAsked a b s d ≡ Refused r → RouteCheck a b s d table (Refused r)
   check-early r e =
       let l = rw e at (early-asked a b s d) in
       record {
         answer = sym (rw e);
+        reads = reading (Refused r) (sym (rw e));
         accepts = ((λ z. absurd (numbered r z)), (λ z. absurd (refused-not r (sym e ∙ asked-accepted a b s d (z .0)))));
         refuses = ((λ z. absurd (omega arith)), (λ z. absurd (refused-not r (sym e ∙ asked-accepted a b s d (z .0)))));
         fault = λ z. absurd (omega arith);
@@ -70,6 +75,7 @@ module _ (a b : List ℤ) (s : ℕ) (d : ℤ) (table : List ℤ) where
     check-short h =
         record {
           answer = sym (rw (e, lt-ltb (length table) (length a * (s + 1)) h));
+          reads = reading (Refused Buffer) (sym (rw (e, lt-ltb (length table) (length a * (s + 1)) h)));
           accepts = ((λ z. absurd (omega arith)), (λ z. absurd (omega (arith, z .1))));
           refuses = ((λ z. absurd (omega arith)), (λ z. absurd (omega (arith, z .1))));
           fault = λ z. absurd (omega arith);
@@ -81,6 +87,9 @@ module _ (a b : List ℤ) (s : ℕ) (d : ℤ) (table : List ℤ) where
         k : Asked a b s d
         k = accepted-asked a b s d e
 
+        answer : r ≡ routeChecked a b s d table
+        answer = rw (e, le-ltb (length table) (length a * (s + 1)) h) f
+
         exact : NoFault (length a) s (pad a) (topPad b d) (columnIn table s) ↔ LegalRoute a b s d table
         exact = faultless-legal (length a) s (pad a) (topPad b d) (columnIn table s) (k .rows .bottom .rising) (top-rising (k .rows) d)
 
@@ -90,7 +99,8 @@ module _ (a b : List ℤ) (s : ℕ) (d : ℤ) (table : List ℤ) where
             let p : r ≡ Accepted = f ∙ g .0 in
             rw p
             (record {
-              answer = sym (rw (e, le-ltb (length table) (length a * (s + 1)) h) (g .0));
+              answer = rw p at answer;
+              reads = reading Accepted (rw p at answer);
               accepts = ((λ z. (k, h, exact .0 (g .1))), (λ z. refl));
               refuses = ((λ z. absurd (omega arith)), (λ z. absurd (z .2 (exact .0 (g .1)))));
               fault = λ z. absurd (omega arith);
@@ -100,7 +110,8 @@ module _ (a b : List ℤ) (s : ℕ) (d : ℤ) (table : List ℤ) where
             let bad : LegalRoute a b s d table → ⊥ = λ l. exact .1 l (g .0) (g .3 .wire) (g .1) (g .3 .track) (g .3 .fault) in
             rw p
             (record {
-              answer = sym (rw (e, le-ltb (length table) (length a * (s + 1)) h) (g .2));
+              answer = rw p at answer;
+              reads = reading (Refused (BadWire (g .0) (g .1))) (rw p at answer);
               accepts = ((λ z. absurd (omega arith)), (λ z. absurd (bad (z .2))));
               refuses = ((λ z. (k, h, bad)), (λ z. refl));
               fault = λ z. g .3;

@@ -1,7 +1,7 @@
 -- The tests of the checker say what they are to say, and the search finds the first fault, or none where there is none.
 -- Sections: what a test tells; the tests as the code meets them; the search, a step at a time; what it finds.
-use mathlib.Core.Path.{_≡_, refl, sym, ap, _∙_}
-use mathlib.Core.Bool.{Bool, true, false, not, cond}
+use mathlib.Core.Path.{_≡_, refl, sym, _∙_}
+use mathlib.Core.Bool.{Bool, true, false, cond}
 use mathlib.Core.Logic.{_⊎_, inl, inr, ⊎-elim, _≢_, _↔_}
 use Prim.Native.Nat.{ℕ, zero, suc, _+_, _-_, _≤_, _<_}
 use native.Mathlib.Nat.{eq-or-lt-of-le}
@@ -11,18 +11,16 @@ use borrow.Author.Tests.{ltb-true, ltb-false, lt-ltb, le-ltb, eqb-true, eqb-fals
 use lib.Dec.{eqb, ltb}
 use lib.IntN.{ℤ}
 use lib.Signed.{_≤ℤ_, ltZ, leZ}
-use mir.Syntax.{w32}
-use mir.Val.{toZ, ofZ, SFits}
-use mir.ValLaws.{toZ-ofZ}
-use Rattle.whole.proofs.Arith.{up, down, arithℤ, ≤-or-<}
-use Rattle.whole.proofs.Order.{untrue, lt-true, true-lt, false-lt, lt-false, true-le, false-le}
+use Rattle.whole.specs.Pick.{differ}
+use Rattle.whole.proofs.Arith.{up, down, arithℤ}
+use Rattle.whole.proofs.Order.{untrue, true-lt, false-lt, true-le, false-le}
 use Rattle.jumper.specs.Rows.{pick, orElse}
 use Rattle.jumper.proofs.Accepted.{refused-not}
 use Rattle.jumper.specs.declared.refusal.Refusal.{Refusal}
 use Rattle.jumper.specs.declared.refusal.Refusal.the-variants.{BadWire}
 use Rattle.jumper.specs.declared.rows.Checked.{Checked}
 use Rattle.jumper.specs.declared.rows.Checked.the-variants.{Accepted, Refused}
-use Rattle.route.specs.Check.{highest, lowest, WrongStart, WrongEnd, Touching, Fault, NoFault, FirstFault, differ, startWrong, endWrong, runTouches, faultAt, wireFault, trackFault}
+use Rattle.route.specs.Check.{rightmost, leftmost, WrongStart, WrongEnd, Touching, Fault, NoFault, FirstFault, startWrong, endWrong, runTouches, faultAt, wireFault, trackFault}
 
 -- WHAT A TEST TELLS
 pub record Tells (t : Bool) (P : Type 0) : Type 0 where
@@ -47,7 +45,6 @@ below-tells : (x y : ℤ) → Tells (leZ x y) (x ≤ℤ y)
 below-tells x y = record { yes = true-le x y; no = λ h l. omega (arithℤ, false-le x y h) }
 
 differ-tells : (x y : ℤ) → Tells (differ x y) (x ≢ y)
-unfolding differ
 differ-tells x y = go (ltZ x y) refl (ltZ y x) refl
   where
     go : (t : Bool) → ltZ x y ≡ t → (u : Bool) → ltZ y x ≡ u → Tells (cond t true u) (x ≢ y)
@@ -66,7 +63,7 @@ end-tells s c e t i = also (eqb t s) (equal-tells t s) (differ-tells (e i s) (c 
 run-tells : (n s : ℕ) (e : ℕ → ℕ → ℤ) (t i : ℕ) → Tells (runTouches n s e t i) (Touching n s e t i)
 unfolding runTouches
 run-tells n s e t i =
-    let r = also (ltb t s) (less-tells t s) (also (ltb (suc i) n) (less-tells (suc i) n) (below-tells (lowest e (suc i) t) (highest e i t))) in
+    let r = also (ltb t s) (less-tells t s) (also (ltb (suc i) n) (less-tells (suc i) n) (below-tells (leftmost e (suc i) t) (rightmost e i t))) in
     record {
       yes = λ h. let f = r .yes h in record { track = f .0; wire = f .1 .0; touches = f .1 .1 };
       no = λ h f. r .no h (f .track, (f .wire, f .touches));
@@ -75,21 +72,6 @@ run-tells n s e t i =
 fault-tells : (n s : ℕ) (a c : ℕ → ℤ) (e : ℕ → ℕ → ℤ) (t i : ℕ) → Tells (faultAt n s a c e t i) (Fault n s a c e t i)
 unfolding faultAt
 fault-tells n s a c e t i = either (startWrong a e t i) (start-tells a e t i) (either (endWrong s c e t i) (end-tells s c e t i) (run-tells n s e t i))
-
--- the machine compares bits
-pub bits-differ : (x y : ℤ) → SFits w32 x → SFits w32 y → not (eqb (ofZ w32 x) (ofZ w32 y)) ≡ differ x y
-unfolding differ
-bits-differ x y hx hy = go (eqb (ofZ w32 x) (ofZ w32 y)) refl
-  where
-    go : (t : Bool) → eqb (ofZ w32 x) (ofZ w32 y) ≡ t → not t ≡ differ x y
-    go true e =
-        let p : x ≡ y = sym (toZ-ofZ w32 x hx) ∙ ap (toZ w32) (eqb-true (ofZ w32 x) (ofZ w32 y) e) ∙ toZ-ofZ w32 y hy in
-        rw (lt-false x y (omega arithℤ), lt-false y x (omega arithℤ))
-    go false e =
-        ⊎-elim
-        (λ le. ⊎-elim (λ ge. let p : x ≡ y = omega arithℤ in absurd (eqb-false (ofZ w32 x) (ofZ w32 y) e (ap (ofZ w32) p))) (λ lt. rw (lt-true x y lt)) (≤-or-< y x))
-        (λ lt. rw (lt-false x y (omega arithℤ), lt-true y x lt))
-        (≤-or-< x y)
 
 -- THE TESTS AS THE CODE MEETS THEM
 module _ (n s : ℕ) (a c : ℕ → ℤ) (e : ℕ → ℕ → ℤ) (t i : ℕ) where
@@ -109,7 +91,7 @@ module _ (n s : ℕ) (a c : ℕ → ℤ) (e : ℕ → ℕ → ℤ) (t i : ℕ) w
   unfolding endWrong
   end-off h = rw (ne-eqb t s h)
 
-  pub touches-here : t < s → i + 1 < n → runTouches n s e t i ≡ leZ (lowest e (i + 1) t) (highest e i t)
+  pub touches-here : t < s → i + 1 < n → runTouches n s e t i ≡ leZ (leftmost e (i + 1) t) (rightmost e i t)
   unfolding runTouches
   touches-here h l = rw (lt-ltb t s h, lt-ltb (suc i) n (omega arith), add-one)
 

@@ -15,13 +15,13 @@ use Rattle.wiring.specs.Fit.{Rising}
 use Rattle.wiring.specs.Table.{Between, LegalTable}
 use Rattle.wiring.proofs.Rule.{rising-less}
 use Rattle.wiring.proofs.Build.{wire-fills, wire-starts, wire-ends, Ordered, ordered-legal}
-use Rattle.route.specs.Check.{highest, lowest, WireClear, NoFault}
+use Rattle.route.specs.Check.{rightmost, leftmost, WireClear, NoFault}
 
 -- the checker's rule, said of what is right
 record InOrder (n s : ℕ) (a c : ℕ → ℤ) (e : ℕ → ℕ → ℤ) : Type 0 where
   starts : (i : ℕ) → i < n → e i 0 ≡ a i
   ends : (i : ℕ) → i < n → e i s ≡ c i
-  runs : (t i : ℕ) → t < s → suc i < n → highest e i t <ℤ lowest e (suc i) t
+  runs : (t i : ℕ) → t < s → suc i < n → rightmost e i t <ℤ leftmost e (suc i) t
 
 -- two columns that do not differ are the same
 same : (x y : ℤ) → ((x ≡ y → ⊥) → ⊥) → x ≡ y
@@ -37,7 +37,7 @@ order p p′ q q′ lt none = ⊎-elim (λ h. absurd (clash h)) (λ h. h) (≤-o
         (λ o. let o′ : z ≤ℤ y = omega arithℤ in inr (omega (arithℤ, smaller-right y z o′), omega (arithℤ, larger-left y z o′)))
         (≤-or-< y z)
 
-    -- otherwise the greater of p and the second's lowest is in both
+    -- otherwise the greater of p and the second's leftmost is in both
     clash : smallerOf q q′ ≤ℤ largerOf p p′ → ⊥
     clash h =
         let x = largerOf p (smallerOf q q′) in
@@ -56,7 +56,7 @@ module _ (n s : ℕ) (a c : ℕ → ℤ) (e : ℕ → ℕ → ℤ) where
     (λ f. record {
       starts = λ i h. same (e i 0) (a i) (λ k. f i h 0 (omega arith) (inl (refl, k)));
       ends = λ i h. same (e i s) (c i) (λ k. f i h s (omega arith) (inr (inl (refl, k))));
-      runs = λ t i h k. ⊎-elim (λ l. absurd (f i (omega arith) t (omega arith) (inr (inr (record { track = h; wire = k; touches = l }))))) (λ l. l) (≤-or-< (lowest e (suc i) t) (highest e i t));
+      runs = λ t i h k. ⊎-elim (λ l. absurd (f i (omega arith) t (omega arith) (inr (inr (record { track = h; wire = k; touches = l }))))) (λ l. l) (≤-or-< (leftmost e (suc i) t) (rightmost e i t));
     }),
     (λ o i h. clear i h o),
   )
@@ -67,17 +67,17 @@ module _ (n s : ℕ) (a c : ℕ → ℤ) (e : ℕ → ℕ → ℤ) where
       clear i h o t l (inr (inr f)) = omega (arithℤ, f .touches, o .runs t i (f .track) (f .wire))
 
   -- the order of neighbours is the order of all
-  chain : InOrder n s a c e → (t k i j : ℕ) → t < s → i + suc k ≡ j → j < n → highest e i t <ℤ lowest e j t
+  chain : InOrder n s a c e → (t k i j : ℕ) → t < s → i + suc k ≡ j → j < n → rightmost e i t <ℤ leftmost e j t
   chain A t zero i j lt h l = let g : j ≡ suc i = omega arith in rw g (A .runs t i lt (omega arith))
   chain A t (suc k) i j lt h l =
       let m = i + suc k in
       let g : j ≡ suc m = omega arith in
-      let r : highest e i t <ℤ lowest e m t = chain A t k i m lt refl (omega arith) in
+      let r : rightmost e i t <ℤ leftmost e m t = chain A t k i m lt refl (omega arith) in
       let x = smaller-law (e m t) (e m (suc t)) in
       let y = larger-law (e m t) (e m (suc t)) in
       rw g (omega (arithℤ, A .runs t m lt (omega arith), x .first, y .first))
 
-  apart : InOrder n s a c e → (t i j : ℕ) → t < s → i < j → j < n → highest e i t <ℤ lowest e j t
+  apart : InOrder n s a c e → (t i j : ℕ) → t < s → i < j → j < n → rightmost e i t <ℤ leftmost e j t
   apart A t i j lt h l = chain A t (j - suc i) i j lt (omega arith) l
 
   in-order-ordered : Rising n c → InOrder n s a c e → Ordered n s a c e
@@ -89,8 +89,8 @@ module _ (n s : ℕ) (a c : ℕ → ℤ) (e : ℕ → ℕ → ℤ) where
           let r = apart A m i j ms lt l in
           let h = larger-law (e i m) (e i (suc m)) in
           let k = smaller-law (e j m) (e j (suc m)) in
-          let x : e i t ≤ℤ highest e i m = ⊎-elim (λ g. rw g (h .first)) (λ g. rw g (h .second)) p in
-          let y : lowest e j m ≤ℤ e j t′ = ⊎-elim (λ g. rw g (k .first)) (λ g. rw g (k .second)) q in
+          let x : e i t ≤ℤ rightmost e i m = ⊎-elim (λ g. rw g (h .first)) (λ g. rw g (h .second)) p in
+          let y : leftmost e j m ≤ℤ e j t′ = ⊎-elim (λ g. rw g (k .first)) (λ g. rw g (k .second)) q in
           omega arithℤ
 
       clear : (i j : ℕ) → i < j → j < n → (t t′ : ℕ) → t ≤ s → t′ ≤ s → t ≤ suc t′ → t′ ≤ suc t → e i t <ℤ e j t′

@@ -5,4 +5,5 @@ mod Wires
 pub mod Faults
 pub mod Legal
 mod Quick
+pub mod Reading
 pub mod Answers

@@ -18,7 +18,7 @@ use Rattle.whole.proofs.Arith.{up, down, arithℤ, ≤-or-<}
 use Rattle.whole.proofs.Order.{untrue, true-lt, false-lt, larger-law, smaller-law}
 use Rattle.wiring.specs.Wiring.{pad}
 use Rattle.route.specs.Table.{columnIn}
-use Rattle.route.specs.Check.{highest, lowest, WireClear, NoFault, RunsApart, startWrong, endWrong}
+use Rattle.route.specs.Check.{rightmost, leftmost, WireClear, NoFault, RunsApart, startWrong, endWrong}
 use Rattle.route.proofs.Faults.{start-tells, end-tells}
 
 -- what one comparison adds
@@ -104,7 +104,7 @@ module _ (n s : ℕ) (a c : ℕ → ℤ) (e : ℕ → ℕ → ℤ) (i : ℕ) whe
   end-unclear f w = w s (omega arith) (inr (inl (end-tells s c e s i .yes f)))
 
   pub clear-runs : suc i < n → WireClear n s a c e i → RunsApart (e i) (e (suc i)) s
-  clear-runs l w t h = ⊎-elim (λ x. absurd (w t (omega arith) (inr (inr (record { track = h; wire = l; touches = x }))))) (λ x. x) (≤-or-< (lowest e (suc i) t) (highest e i t))
+  clear-runs l w t h = ⊎-elim (λ x. absurd (w t (omega arith) (inr (inr (record { track = h; wire = l; touches = x }))))) (λ x. x) (≤-or-< (leftmost e (suc i) t) (rightmost e i t))
 
   pub clear-by : (k : ℕ) → startWrong a e 0 i ≡ false → endWrong s c e s i ≡ false → suc i < n → (k ≡ 0) ↔ RunsApart (e i) (e (suc i)) s → (eqb k 0 ≡ true) ↔ WireClear n s a c e i
   clear-by k f g l r = ((λ z. clear-of f g (λ h. r .0 (eqb-true k 0 z))), (λ w. eq-eqb k 0 (r .1 (clear-runs l w))))

@@ -9,10 +9,10 @@ use mathlib.Core.List.{List}
 use mathlib.Core.Logic.{_⊎_, _≢_, _↔_}
 use Prim.Native.Nat.{ℕ, zero, suc, _+_, _*_, _≤_, _<_}
 use lib.Dec.{eqb, ltb}
-use lib.ListN.{length}
+use lib.ListN.{length, take}
 use lib.IntN.{ℤ}
-use lib.Signed.{_≤ℤ_, _<ℤ_, ltZ, leZ}
-use Rattle.whole.specs.Pick.{largerOf, smallerOf}
+use lib.Signed.{_≤ℤ_, _<ℤ_, leZ}
+use Rattle.whole.specs.Pick.{differ, largerOf, smallerOf}
 use Rattle.wiring.specs.Wiring.{pad, topPad}
 use Rattle.jumper.specs.Rows.{checkedNumbers, pick, orElse}
 use Rattle.jumper.specs.Asked.{checkAsked, Asked}
@@ -21,12 +21,12 @@ use Rattle.jumper.specs.declared.rows.Checked.{Checked}
 use Rattle.jumper.specs.declared.rows.Checked.the-variants.{Accepted, Refused}
 use Rattle.route.specs.Table.{columnIn, noRoom, LegalRoute}
 
--- the highest and the lowest column of wire i's run on track t < s
-abbrev pub highest : (ℕ → ℕ → ℤ) → ℕ → ℕ → ℤ
-highest e i t = largerOf (e i t) (e i (suc t))
+-- the rightmost and the leftmost column of wire i's run on track t < s: 01's highest and lowest
+abbrev pub rightmost : (ℕ → ℕ → ℤ) → ℕ → ℕ → ℤ
+rightmost e i t = largerOf (e i t) (e i (suc t))
 
-abbrev pub lowest : (ℕ → ℕ → ℤ) → ℕ → ℕ → ℤ
-lowest e i t = smallerOf (e i t) (e i (suc t))
+abbrev pub leftmost : (ℕ → ℕ → ℤ) → ℕ → ℕ → ℤ
+leftmost e i t = smallerOf (e i t) (e i (suc t))
 
 -- "wrong start on track 0"
 abbrev pub WrongStart : (a : ℕ → ℤ) (e : ℕ → ℕ → ℤ) (t i : ℕ) → Type 0
@@ -40,7 +40,7 @@ WrongEnd s c e t i = (t ≡ s) × (e i s ≢ c i)
 pub record Touching (n s : ℕ) (e : ℕ → ℕ → ℤ) (t i : ℕ) : Type 0 where
   pub track : t < s
   pub wire : suc i < n
-  pub touches : lowest e (suc i) t ≤ℤ highest e i t
+  pub touches : leftmost e (suc i) t ≤ℤ rightmost e i t
 
 -- a fault at wire i on track t, with its kind
 abbrev pub Fault : (n s : ℕ) (a c : ℕ → ℤ) (e : ℕ → ℕ → ℤ) (t i : ℕ) → Type 0
@@ -66,9 +66,6 @@ pub record FirstFault (n s : ℕ) (a c : ℕ → ℤ) (e : ℕ → ℕ → ℤ) 
   pub wires : (j : ℕ) → j < i → Fault n s a c e t j → ⊥
 
 -- the same by tests
-unfoldable pub differ : ℤ → ℤ → Bool
-differ x y = cond (ltZ x y) true (ltZ y x)
-
 unfoldable pub startWrong : (a : ℕ → ℤ) (e : ℕ → ℕ → ℤ) (t i : ℕ) → Bool
 startWrong a e t i = cond (eqb t 0) (differ (e i 0) (a i)) false
 
@@ -76,7 +73,7 @@ unfoldable pub endWrong : (s : ℕ) (c : ℕ → ℤ) (e : ℕ → ℕ → ℤ) 
 endWrong s c e t i = cond (eqb t s) (differ (e i s) (c i)) false
 
 unfoldable pub runTouches : (n s : ℕ) (e : ℕ → ℕ → ℤ) (t i : ℕ) → Bool
-runTouches n s e t i = cond (ltb t s) (cond (ltb (suc i) n) (leZ (lowest e (suc i) t) (highest e i t)) false) false
+runTouches n s e t i = cond (ltb t s) (cond (ltb (suc i) n) (leZ (leftmost e (suc i) t) (rightmost e i t)) false) false
 
 unfoldable pub faultAt : (n s : ℕ) (a c : ℕ → ℤ) (e : ℕ → ℕ → ℤ) (t i : ℕ) → Bool
 faultAt n s a c e t i = cond (startWrong a e t i) true (cond (endWrong s c e t i) true (runTouches n s e t i))
@@ -105,6 +102,8 @@ routeChecked a b s d table = orElse (checkAsked a b s d) (orElse (noRoom (length
 -- for the other tables that can be read, names the wire and the track of the first fault.
 pub record RouteCheck (a b : List ℤ) (s : ℕ) (d : ℤ) (table : List ℤ) (r : Checked) : Type 0 where
   pub answer : r ≡ routeChecked a b s d table
+  -- "reads its first n(s + 1) places": a table that is the same there gets the same answer
+  pub reads : (other : List ℤ) → take (length a * (s + 1)) other ≡ take (length a * (s + 1)) table → r ≡ routeChecked a b s d other
   pub accepts : (checkedNumbers r .refusal ≡ 0) ↔ (Asked a b s d × (length a * (s + 1) ≤ length table) × LegalRoute a b s d table)
   pub refuses : (checkedNumbers r .refusal ≡ 16) ↔ (Asked a b s d × (length a * (s + 1) ≤ length table) × (LegalRoute a b s d table → ⊥))
   pub fault : checkedNumbers r .refusal ≡ 16 → FirstFault (length a) s (pad a) (topPad b d) (columnIn table s) (checkedNumbers r .place) (checkedNumbers r .second)

@@ -9,12 +9,12 @@ use lib.IntN.{ℤ}
 use Rattle.wiring.specs.Wiring.{Point, Legal, pad, topPad, HasWiring}
 use Rattle.wiring.specs.Table.{wireOf}
 use Rattle.wiring.specs.Drawing.{drawn}
-use Rattle.jumper.specs.Rows.{checkedNumbers, pick, orElse}
+use Rattle.jumper.specs.Rows.{checkedNumbers, pick, unlessRefused, orElse}
 use Rattle.jumper.specs.Asked.{checkAsked, Asked}
 use Rattle.jumper.specs.declared.refusal.Refusal.the-variants.{Wire}
 use Rattle.jumper.specs.declared.rows.Checked.{Checked}
 use Rattle.jumper.specs.declared.rows.Checked.the-variants.{Accepted, Refused}
-use Rattle.fit.specs.Misfit.{misfitOf, refusing, Witness}
+use Rattle.fit.specs.Misfit.{misfitOf, noFit, Witness}
 use Rattle.route.specs.Table.{columnIn, columns, wires, noRoom, LegalRoute}
 
 -- the columns that 01 gives wire i, and the wires that they mean
@@ -31,10 +31,9 @@ wireDrawn a b s d i out = columns (drawnOf a b d i) (s + 1) ++ drop (s + 1) out
 abbrev pub allDrawn : (a b : List ℤ) (s : ℕ) (d : ℤ) (out : List ℤ) → List ℤ
 allDrawn a b s d out = wires (drawnOf a b d) s (length a) ++ drop (length a * (s + 1)) out
 
--- "no lent memory changes" on a refusal
-abbrev pub unlessRefused : Checked → (changed out : List ℤ) → List ℤ
-unlessRefused Accepted changed out = changed
-unlessRefused (Refused r) changed out = out
+-- a buffer after a call: "no lent memory changes" on a refusal
+abbrev pub bufferAfter : Checked → (changed out : List ℤ) → List ℤ
+bufferAfter r changed out = unlessRefused r (λ q. out) changed
 
 -- WIRE, "wire number >= n"
 abbrev pub noWire : (n wire : ℕ) → Checked
@@ -42,15 +41,15 @@ noWire n wire = pick (ltb wire n) Accepted (Refused Wire)
 
 -- the refusals in 01's order, for a buffer of `room` places
 abbrev pub wireRefusal : (a b : List ℤ) (s : ℕ) (d : ℤ) (wire room : ℕ) → Checked
-wireRefusal a b s d wire room = orElse (checkAsked a b s d) (orElse (noWire (length a) wire) (orElse (noRoom (s + 1) room) (refusing (misfitOf a b s d))))
+wireRefusal a b s d wire room = orElse (checkAsked a b s d) (orElse (noWire (length a) wire) (orElse (noRoom (s + 1) room) (noFit (misfitOf a b s d))))
 
 abbrev pub allRefusal : (a b : List ℤ) (s : ℕ) (d : ℤ) (room : ℕ) → Checked
-allRefusal a b s d room = orElse (checkAsked a b s d) (orElse (noRoom (length a * (s + 1)) room) (refusing (misfitOf a b s d)))
+allRefusal a b s d room = orElse (checkAsked a b s d) (orElse (noRoom (length a * (s + 1)) room) (noFit (misfitOf a b s d)))
 
 -- What `draw_wire` promises of a buffer `out` and what it holds after the call, `out′`: the wire that its places mean is wire `wire` of a legal wiring.
 pub record DrawWireAnswer (a b : List ℤ) (s : ℕ) (d : ℤ) (wire : ℕ) (out out′ : List ℤ) (r : Checked) : Type 0 where
   pub answer : r ≡ wireRefusal a b s d wire (length out)
-  pub buffer : out′ ≡ unlessRefused r (wireDrawn a b s d wire out) out
+  pub buffer : out′ ≡ bufferAfter r (wireDrawn a b s d wire out) out
   pub draws : (checkedNumbers r .refusal ≡ 0) ↔ (Asked a b s d × (wire < length a) × (s < length out) × HasWiring a b s d)
   pub places : checkedNumbers r .refusal ≡ 0 → (t : ℕ) → t ≤ s → pad out′ t ≡ drawnOf a b d wire t
   pub means : checkedNumbers r .refusal ≡ 0 → wireOf (pad out′) s ≡ drawnWires a b s d wire
@@ -61,7 +60,7 @@ pub record DrawWireAnswer (a b : List ℤ) (s : ℕ) (d : ℤ) (wire : ℕ) (out
 -- What `draw_all` promises: the wires that the places mean are a legal wiring.
 pub record DrawAllAnswer (a b : List ℤ) (s : ℕ) (d : ℤ) (out out′ : List ℤ) (r : Checked) : Type 0 where
   pub answer : r ≡ allRefusal a b s d (length out)
-  pub buffer : out′ ≡ unlessRefused r (allDrawn a b s d out) out
+  pub buffer : out′ ≡ bufferAfter r (allDrawn a b s d out) out
   pub draws : (checkedNumbers r .refusal ≡ 0) ↔ (Asked a b s d × (length a * (s + 1) ≤ length out) × HasWiring a b s d)
   pub places : checkedNumbers r .refusal ≡ 0 → (i t : ℕ) → i < length a → t ≤ s → columnIn out′ s i t ≡ drawnOf a b d i t
   pub legal : checkedNumbers r .refusal ≡ 0 → LegalRoute a b s d out′

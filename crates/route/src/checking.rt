@@ -10,7 +10,7 @@ ghost use Rattle.wiring.specs.Wiring.{pad, topPad};
 ghost use Rattle.jumper.specs.Limits.{maxPairs, maxTracks};
 ghost use Rattle.jumper.specs.Asked.{Asked};
 ghost use Rattle.route.specs.Table.{columnIn};
-ghost use Rattle.route.specs.Check.{highest, lowest, WireClear, NoFault, RunsApart, differ, startWrong, endWrong, runTouches, faultOf, wireFault, firstFault, RouteCheck};
+ghost use Rattle.route.specs.Check.{rightmost, leftmost, WireClear, NoFault, RunsApart, startWrong, endWrong, runTouches, faultOf, wireFault, firstFault, RouteCheck};
 use crate::drawing::places;
 use crate::drawing::top_pad;
 use jumper::asked::check_asked;
@@ -35,12 +35,6 @@ pub fn check_route(a: &[i32], b: &[i32], s: usize, d: i32, table: &[i32]) -> Che
     }
 }
 
-fn differs(x: i32, y: i32) -> bool
-    ensures { λ r. ⌜ r ≡ differ x y ⌝ }
-{
-    x != y
-}
-
 // The column on which wire i enters track t.
 fn column_in(table: &[i32], s: usize, i: usize, t: usize) -> i32
     requires { ⌜ (s ≤ maxTracks) × (i * (s + 1) + t < length (now table)) ⌝ }
@@ -49,18 +43,18 @@ fn column_in(table: &[i32], s: usize, i: usize, t: usize) -> i32
     table[i * (s + 1) + t]
 }
 
-// The highest column of wire i's run on track t.
-fn highest_of(table: &[i32], s: usize, i: usize, t: usize) -> i32
+// The rightmost column of wire i's run on track t.
+fn rightmost_of(table: &[i32], s: usize, i: usize, t: usize) -> i32
     requires { ⌜ (s ≤ maxTracks) × (i * (s + 1) + (t + 1) < length (now table)) ⌝ }
-    ensures { λ r. ⌜ r ≡ highest (columnIn (now (table .entry)) s) i t ⌝ }
+    ensures { λ r. ⌜ r ≡ rightmost (columnIn (now (table .entry)) s) i t ⌝ }
 {
     whole::larger(column_in(table, s, i, t), column_in(table, s, i, t + 1))
 }
 
-// And the lowest.
-fn lowest_of(table: &[i32], s: usize, i: usize, t: usize) -> i32
+// And the leftmost.
+fn leftmost_of(table: &[i32], s: usize, i: usize, t: usize) -> i32
     requires { ⌜ (s ≤ maxTracks) × (i * (s + 1) + (t + 1) < length (now table)) ⌝ }
-    ensures { λ r. ⌜ r ≡ lowest (columnIn (now (table .entry)) s) i t ⌝ }
+    ensures { λ r. ⌜ r ≡ leftmost (columnIn (now (table .entry)) s) i t ⌝ }
 {
     whole::smaller(column_in(table, s, i, t), column_in(table, s, i, t + 1))
 }
@@ -70,7 +64,7 @@ fn start_wrong(a: &[i32], s: usize, table: &[i32], t: usize, i: usize) -> bool
     ensures { λ r. ⌜ r ≡ startWrong (pad (now (a .entry))) (columnIn (now (table .entry)) s) t i ⌝ }
 {
     if t == 0 {
-        return differs(column_in(table, s, i, 0), a[i]);
+        return whole::differs(column_in(table, s, i, 0), a[i]);
     }
     false
 }
@@ -80,7 +74,7 @@ fn end_wrong(a: &[i32], b: &[i32], s: usize, d: i32, table: &[i32], t: usize, i:
     ensures { λ r. ⌜ r ≡ endWrong s (topPad (now (b .entry)) d) (columnIn (now (table .entry)) s) t i ⌝ }
 {
     if t == s {
-        return differs(column_in(table, s, i, s), top_pad(b, i, d));
+        return whole::differs(column_in(table, s, i, s), top_pad(b, i, d));
     }
     false
 }
@@ -91,7 +85,7 @@ fn run_touches(n: usize, s: usize, table: &[i32], t: usize, i: usize) -> bool
 {
     if t + 1 <= s {
         if i + 1 < n {
-            return lowest_of(table, s, i + 1, t) <= highest_of(table, s, i, t);
+            return leftmost_of(table, s, i + 1, t) <= rightmost_of(table, s, i, t);
         }
     }
     false

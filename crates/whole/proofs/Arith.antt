@@ -2,7 +2,7 @@
 -- Sections: the two halves of a whole number; orders and equations to halves and back; sums; the ruleset `arithℤ`.
 -- A sum, a difference or a negation is an unknown to omega until its law is listed: `omega (arithℤ, sum a b, dif a b, neg a)`.
 -- Not here: the tests of the code (Order), what an i32 holds (Machine), largest and smallest (Extremes).
-use mathlib.Core.Path.{_≡_, refl, ap}
+use mathlib.Core.Path.{_≡_, ap}
 use mathlib.Core.Bool.{Bool, true, false, not, cond}
 use mathlib.Core.Logic.{_⊎_, inl, inr}
 use Prim.Native.Nat.{ℕ, zero, suc, _+_, _-_, _≤_, _<_}

@@ -1,5 +1,5 @@
 -- The first place of the largest, and of the smallest: one law over the order by which they are picked.
-use mathlib.Core.Path.{_≡_, refl, sym, _∙_}
+use mathlib.Core.Path.{_≡_, refl, ap}
 use mathlib.Core.Bool.{Bool, true, false, cond}
 use mathlib.Core.Logic.{⊎-elim}
 use Prim.Native.Nat.{ℕ, zero, suc, _+_, _≤_, _<_}
@@ -102,3 +102,17 @@ largest-first f = refl
 pub smallest-first : (f : ℕ → ℤ) → smallest f 0 ≡ f 0
 unfolding firstBy
 smallest-first f = refl
+
+-- the search for the first place, from the left: it isn't past, and the test tells whether it is reached
+module _ (f : ℕ → ℤ) (n i : ℕ) where
+  pub largest-later : i ≤ largestAt f n → ltZ (f i) (largest f n) ≡ true → i < largestAt f n
+  largest-later h e = ⊎-elim (λ g. absurd (omega (arithℤ, true-lt (f i) (largest f n) e, ap f g))) (λ g. g) (eq-or-lt-of-le h)
+
+  pub largest-here : i ≤ largestAt f n → ltZ (f i) (largest f n) ≡ false → i ≡ largestAt f n
+  largest-here h e = ⊎-elim (λ g. g) (λ g. absurd (omega (arithℤ, false-lt (f i) (largest f n) e, largest-law f n .first i g))) (eq-or-lt-of-le h)
+
+  pub smallest-later : i ≤ smallestAt f n → ltZ (smallest f n) (f i) ≡ true → i < smallestAt f n
+  smallest-later h e = ⊎-elim (λ g. absurd (omega (arithℤ, true-lt (smallest f n) (f i) e, ap f g))) (λ g. g) (eq-or-lt-of-le h)
+
+  pub smallest-here : i ≤ smallestAt f n → ltZ (smallest f n) (f i) ≡ false → i ≡ smallestAt f n
+  smallest-here h e = ⊎-elim (λ g. g) (λ g. absurd (omega (arithℤ, false-lt (smallest f n) (f i) e, smallest-law f n .first i g))) (eq-or-lt-of-le h)

@@ -1,14 +1,19 @@
 -- What an i32 holds. In an invariant a signed local is its bits, a ℕ: `toZ w32 v`; `back` turns the bits of a whole number into it again.
-use mathlib.Core.Path.{_≡_}
-use mathlib.Core.Logic.{_⊎_, inl, inr}
+use mathlib.Core.Path.{_≡_, refl, sym, ap, _∙_}
+use mathlib.Core.Bool.{Bool, true, false, not}
+use mathlib.Core.Logic.{_⊎_, inl, inr, ⊎-elim}
 use Prim.Native.Nat.{ℕ, _+_, _≤_, _<_, _^_}
 use native.Mathlib.Omega.{arith}
-use lib.IntN.{ℤ, pos, negsuc, negℤ, _+ℤ_, _-ℤ_, natAbs}
-use lib.Signed.{mag, _≤ℤ_}
+use borrow.Author.Tests.{eqb-true, eqb-false}
+use lib.Dec.{eqb}
+use lib.IntN.{ℤ, pos, negsuc, _+ℤ_, _-ℤ_, natAbs}
+use lib.Signed.{mag}
 use mir.Syntax.{w32}
 use mir.Val.{toZ, ofZ, SFits}
 use mir.ValLaws.{toZ-ofZ}
-use Rattle.whole.proofs.Arith.{up, down, arithℤ, sum, dif, neg}
+use Rattle.whole.specs.Pick.{differ}
+use Rattle.whole.proofs.Arith.{up, down, arithℤ, sum, dif, ≤-or-<}
+use Rattle.whole.proofs.Order.{lt-true, lt-false}
 
 pub back : (z : ℤ) → mag z < 2 ^ 31 → toZ w32 (ofZ w32 z) ≡ z
 back z h = toZ-ofZ w32 z (record { sfits = h })
@@ -21,9 +26,6 @@ abs-halves (negsuc n) = omega arith
 pub abs-of : (z : ℤ) (B : ℕ) → up z ≤ down z + B → down z ≤ up z + B → natAbs z ≤ B
 abs-of (pos n) B h k = omega arith
 abs-of (negsuc n) B h k = omega arith
-
-pub abs-within : (z : ℤ) (B : ℕ) → negℤ (pos B) ≤ℤ z → z ≤ℤ pos B → natAbs z ≤ B
-abs-within z B h k = abs-of z B (omega arithℤ) (omega (arithℤ, neg (pos B)))
 
 pub abs-is : (z : ℤ) (B : ℕ) → (up z ≡ down z + B) ⊎ (down z ≡ up z + B) → natAbs z ≡ B
 abs-is (pos n) B (inl h) = omega arith
@@ -50,3 +52,17 @@ sum-fits x y h k = fits32 (x +ℤ y) (omega (arith, abs-sum x y))
 
 pub dif-fits : (x y : ℤ) → natAbs x ≤ 1000000000 → natAbs y ≤ 1000000000 → mag (x -ℤ y) < 2 ^ 31
 dif-fits x y h k = fits32 (x -ℤ y) (omega (arith, abs-dif x y))
+
+-- the machine compares bits
+pub bits-differ : (x y : ℤ) → SFits w32 x → SFits w32 y → not (eqb (ofZ w32 x) (ofZ w32 y)) ≡ differ x y
+bits-differ x y hx hy = go (eqb (ofZ w32 x) (ofZ w32 y)) refl
+  where
+    go : (t : Bool) → eqb (ofZ w32 x) (ofZ w32 y) ≡ t → not t ≡ differ x y
+    go true e =
+        let p : x ≡ y = sym (toZ-ofZ w32 x hx) ∙ ap (toZ w32) (eqb-true (ofZ w32 x) (ofZ w32 y) e) ∙ toZ-ofZ w32 y hy in
+        rw (lt-false x y (omega arithℤ), lt-false y x (omega arithℤ))
+    go false e =
+        ⊎-elim
+        (λ le. ⊎-elim (λ ge. let p : x ≡ y = omega arithℤ in absurd (eqb-false (ofZ w32 x) (ofZ w32 y) e (ap (ofZ w32) p))) (λ lt. rw (lt-true x y lt)) (≤-or-< y x))
+        (λ lt. rw (lt-false x y (omega arithℤ), lt-true y x lt))
+        (≤-or-< x y)

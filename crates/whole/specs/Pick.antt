@@ -1,9 +1,12 @@
--- The larger and the smaller of two whole numbers, and the first place at which a run of them is largest or smallest.
+-- Whether two whole numbers differ, the larger and the smaller of two, and the first place at which a run of them is largest or smallest.
 -- Contracts of every floor cite these.
-use mathlib.Core.Bool.{Bool, true, false, cond}
+use mathlib.Core.Bool.{Bool, true, cond}
 use Prim.Native.Nat.{ℕ, zero, suc}
 use lib.IntN.{ℤ}
 use lib.Signed.{ltZ}
+
+abbrev pub differ : ℤ → ℤ → Bool
+differ x y = cond (ltZ x y) true (ltZ y x)
 
 unfoldable pub largerOf : ℤ → ℤ → ℤ
 largerOf x y = cond (ltZ x y) y x

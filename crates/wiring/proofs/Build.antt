@@ -4,17 +4,16 @@ use mathlib.Core.Path.{_≡_, refl, sym, ap, _∙_}
 use mathlib.Core.List.{List, [], _∷_}
 use mathlib.Core.Logic.{_⊎_, inl, inr, ⊎-elim, _↔_}
 use Prim.Native.Nat.{ℕ, zero, suc, _+_, _-_, _≤_, _<_}
-use native.Mathlib.Decide.{ℕ-discrete, decLe}
-use native.Mathlib.Numerals.{add-one}
+use native.Mathlib.Decide.{ℕ-discrete}
 use native.Mathlib.Omega.{arith}
-use lib.IntN.{ℤ, pos, _+ℤ_, _-ℤ_, natAbs}
-use lib.Signed.{_≤ℤ_, _<ℤ_, leZ}
+use lib.IntN.{ℤ, pos, _-ℤ_, natAbs}
+use lib.Signed.{_≤ℤ_, _<ℤ_}
 use Rattle.whole.proofs.Arith.{up, down, arithℤ, sum, dif, ≤-or-<}
 use Rattle.whole.proofs.Order.{le-true, le-false}
 use Rattle.whole.proofs.Machine.{abs-is}
-use Rattle.wiring.specs.Wiring.{Point, at, Beside, Step, Wire, On, Legal}
-use Rattle.wiring.specs.Table.{east, west, steps, along, climb, wireOf, Between, Fills, LegalTable}
-use Rattle.wiring.proofs.Walk.{Among, on-among, among-on, Leads, Walk, wire-walk, walk-wire, same-point}
+use Rattle.wiring.specs.Wiring.{Point, at, Beside, Wire, On}
+use Rattle.wiring.specs.Table.{east, west, steps, along, upFrom, wireOf, Between, Fills, LegalTable}
+use Rattle.wiring.proofs.Walk.{Among, on-among, among-on, Leads, wire-walk, walk-wire, same-point}
 
 -- how far y is to the right of x
 gap : (x y : ℤ) → x ≤ℤ y → up x + down y + natAbs (y -ℤ x) ≡ up y + down x
@@ -118,17 +117,17 @@ along-has x y t rest q e b = ⊎-elim eastward westward (≤-or-< x y)
         (record { same-track = e; after = omega arithℤ; upto = ⊎-elim (λ z. omega (arithℤ, gap y x le)) (λ z. omega (arithℤ, gap y x le)) b }))))
         (≤-or-< x (q .column))
 
-climb-leads : (e : ℕ → ℤ) (t m s : ℕ) → t + m ≡ s → Leads s (e s) (at (e t) t) (climb e t m)
-unfolding climb
-climb-leads e t zero s h = let k : t ≡ s = omega arith in same-point _ _ (ap e k) k
-climb-leads e t (suc m) s h =
+up-leads : (e : ℕ → ℤ) (t m s : ℕ) → t + m ≡ s → Leads s (e s) (at (e t) t) (upFrom e t m)
+unfolding upFrom
+up-leads e t zero s h = let k : t ≡ s = omega arith in same-point _ _ (ap e k) k
+up-leads e t (suc m) s h =
     along-leads (e t) (e (suc t)) s t (e s) _ (omega arith)
-    (omega arith, inr (refl, inl (omega arith)), climb-leads e (suc t) m s (omega arith))
+    (omega arith, inr (refl, inl (omega arith)), up-leads e (suc t) m s (omega arith))
 
 -- every column of the table is joined to the next: the list is a wire
 pub wire-wire : (e : ℕ → ℤ) (s : ℕ) → Wire s (e 0) (e s) (wireOf e s)
 unfolding wireOf
-wire-wire e s = walk-wire s (e 0) (e s) (wireOf e s) (refl, climb-leads e 0 s s (omega arith))
+wire-wire e s = walk-wire s (e 0) (e s) (wireOf e s) (refl, up-leads e 0 s s (omega arith))
 
 at-fills : (e : ℕ → ℤ) (s t : ℕ) (q : Point) → t ≤ s → q ≡ at (e t) t → Fills e s q
 at-fills e s t q le h =
@@ -140,26 +139,26 @@ at-fills e s t q le h =
     pick f g (yes z) = inr (omega arith, g ∙ ap e z)
     pick f g (no z) = inl (omega arith, rw f (⊎-elim (λ o. inl (omega arithℤ, omega arithℤ)) (λ o. inr (omega arithℤ, omega arithℤ)) (≤-or-< (e t) (e (suc t)))))
 
-climb-on : (e : ℕ → ℤ) (t m s : ℕ) → t + m ≡ s → (q : Point) → Among q (climb e t m) → Fills e s q
-unfolding climb
-climb-on e t zero s h q on = absurd on
-climb-on e t (suc m) s h q on =
+up-on : (e : ℕ → ℤ) (t m s : ℕ) → t + m ≡ s → (q : Point) → Among q (upFrom e t m) → Fills e s q
+unfolding upFrom
+up-on e t zero s h q on = absurd on
+up-on e t (suc m) s h q on =
     ⊎-elim (λ k. inl (omega (arith, k .0), rw (k .0) (k .1)))
-    (λ k. ⊎-elim (at-fills e s (suc t) q (omega arith)) (climb-on e (suc t) m s (omega arith) q) k)
+    (λ k. ⊎-elim (at-fills e s (suc t) q (omega arith)) (up-on e (suc t) m s (omega arith) q) k)
     (along-on (e t) (e (suc t)) t _ q on)
 
-climb-has : (e : ℕ → ℤ) (t m s : ℕ) → t + m ≡ s → (q : Point) → t ≤ q .track → Fills e s q → (q ≡ at (e t) t) ⊎ Among q (climb e t m)
-unfolding climb
-climb-has e t zero s h q le (inl f) = absurd (omega arith)
-climb-has e t zero s h q le (inr f) = let k : s ≡ t = omega arith in inl (same-point q (at (e t) t) (rw k at (f .1)) (omega arith))
-climb-has e t (suc m) s h q le f = go (ℕ-discrete (q .track) t) (λ l. climb-has e (suc t) m s (omega arith) q l f)
+up-has : (e : ℕ → ℤ) (t m s : ℕ) → t + m ≡ s → (q : Point) → t ≤ q .track → Fills e s q → (q ≡ at (e t) t) ⊎ Among q (upFrom e t m)
+unfolding upFrom
+up-has e t zero s h q le (inl f) = absurd (omega arith)
+up-has e t zero s h q le (inr f) = let k : s ≡ t = omega arith in inl (same-point q (at (e t) t) (rw k at (f .1)) (omega arith))
+up-has e t (suc m) s h q le f = go (ℕ-discrete (q .track) t) (λ l. up-has e (suc t) m s (omega arith) q l f)
   where
     here : q .track ≡ t → Fills e s q → Between (q .column) (e t) (e (suc t))
     here k (inl z) = rw k at (z .1)
     here k (inr z) = absurd (omega arith)
 
     rest : List Point
-    rest = at (e (suc t)) (suc t) ∷ climb e (suc t) m
+    rest = at (e (suc t)) (suc t) ∷ upFrom e (suc t) m
 
     go : Dec (q .track ≡ t) → (suc t ≤ q .track → Among q rest) → (q ≡ at (e t) t) ⊎ Among q (along (e t) (e (suc t)) t rest)
     go (yes k) r = along-has (e t) (e (suc t)) t rest q k (here k f)
@@ -169,8 +168,8 @@ climb-has e t (suc m) s h q le f = go (ℕ-discrete (q .track) t) (λ l. climb-h
 pub wire-fills : (e : ℕ → ℤ) (s : ℕ) (q : Point) → On q (wireOf e s) ↔ Fills e s q
 unfolding wireOf
 wire-fills e s q = (
-  (λ on. ⊎-elim (at-fills e s 0 q (omega arith)) (climb-on e 0 s s (omega arith) q) (on-among q (wireOf e s) on)),
-  (λ f. among-on q (wireOf e s) (climb-has e 0 s s (omega arith) q (omega arith) f)),
+  (λ on. ⊎-elim (at-fills e s 0 q (omega arith)) (up-on e 0 s s (omega arith) q) (on-among q (wireOf e s) on)),
+  (λ f. among-on q (wireOf e s) (up-has e 0 s s (omega arith) q (omega arith) f)),
 )
 
 -- a wire of a table starts on its first column and ends on its last
@@ -184,7 +183,7 @@ wire-starts e s a c w = ap (λ (z : Point). z .column) (w .starts)
 
 pub wire-ends : (e : ℕ → ℤ) (s : ℕ) (a c : ℤ) → Wire s a c (wireOf e s) → e s ≡ c
 unfolding wireOf
-wire-ends e s a c w = leads-end s (e s) c (at (e 0) 0) (climb e 0 s) (climb-leads e 0 s s (omega arith)) (wire-walk s a c (wireOf e s) w .1)
+wire-ends e s a c w = leads-end s (e s) c (at (e 0) 0) (upFrom e 0 s) (up-leads e 0 s s (omega arith)) (wire-walk s a c (wireOf e s) w .1)
 
 -- each wire keeps to the left of those after it, on each track and from each track to the next
 pub record Ordered (n s : ℕ) (a c : ℕ → ℤ) (e : ℕ → ℕ → ℤ) : Type 0 where

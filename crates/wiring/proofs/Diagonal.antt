@@ -7,7 +7,7 @@ use Prim.Native.Nat.{ℕ, suc, _+_, _≤_, _<_}
 use native.Mathlib.Decide.{ℕ-discrete}
 use native.Mathlib.Omega.{arith}
 use lib.IntN.{ℤ, pos, _+ℤ_}
-use lib.Signed.{_≤ℤ_, _<ℤ_}
+use lib.Signed.{_≤ℤ_}
 use Rattle.whole.proofs.Arith.{up, down, arithℤ, sum, ≤-or-<}
 use Rattle.wiring.specs.Wiring.{Point, Beside, Step, Legal}
 use Rattle.wiring.specs.Fit.{Steady}

@@ -1,11 +1,10 @@
 -- The halving law (003, sections 3 and 4), with one offset in hand: what fits the even half, and what fits the whole.
 use mathlib.Core.Path.{_≡_, ap}
-use Prim.Native.Nat.{ℕ, suc, _+_, _-_, _*_, _/_, _≤_, _<_}
+use Prim.Native.Nat.{ℕ, _+_, _-_, _*_, _/_}
 use native.Mathlib.Omega.{arith}
 use lib.IntN.{ℤ, _-ℤ_}
-use lib.Signed.{_≤ℤ_}
 use Rattle.whole.proofs.Arith.{up, down, arithℤ, dif}
-use Rattle.wiring.specs.Fit.{Steady, lowEnd, highEnd, Fits, evens, half}
+use Rattle.wiring.specs.Fit.{Steady, Fits, evens, half}
 
 pub evens-steady : {n : ℕ} {x : ℕ → ℤ} → Steady n x → Steady (half n) (evens x)
 evens-steady {n} s i j h l = s (2 * i) (2 * j) (omega arith) (omega arith)

@@ -1,11 +1,10 @@
 -- The mirror law: the jumper seen from behind (columns negated, order of pairs and sign of the offset turned) fits exactly where the jumper does,
 -- and a witness there is the witness here with its pads counted from the other end and its side exchanged.
-use mathlib.Core.Path.{_≡_, refl, sym, ap, _∙_}
+use mathlib.Core.Path.{_≡_, refl, ap}
 use mathlib.Core.Logic.{_↔_}
-use Prim.Native.Nat.{ℕ, suc, _+_, _-_, _≤_, _<_}
+use Prim.Native.Nat.{ℕ, suc, _+_, _-_, _<_}
 use native.Mathlib.Omega.{arith}
 use lib.IntN.{ℤ, pos, negℤ, _-ℤ_}
-use lib.Signed.{_≤ℤ_, _<ℤ_}
 use Rattle.whole.proofs.Arith.{up, down, arithℤ, dif, neg}
 use Rattle.wiring.specs.Fit.{lean, Rising, lowEnd, highEnd, Fits, TooRight, TooLeft, behind}
 

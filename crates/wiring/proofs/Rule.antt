@@ -1,13 +1,11 @@
 -- Laws of rows and of the rule of fit, on x and y alone.
 -- Sections: rising rows; a fit at s is a fit above s; what breaks the rule; the ends of s.
 use mathlib.Core.Path.{_≡_, refl, ap}
-use mathlib.Core.Logic.{⊎-elim}
 use Prim.Native.Nat.{ℕ, zero, suc, _+_, _-_, _≤_, _<_}
-use native.Mathlib.Decide.{ℕ-discrete}
 use native.Mathlib.Omega.{arith}
-use lib.IntN.{ℤ, pos, _+ℤ_, _-ℤ_}
+use lib.IntN.{ℤ, pos, _+ℤ_}
 use lib.Signed.{_≤ℤ_, _<ℤ_}
-use Rattle.whole.proofs.Arith.{up, down, arithℤ, sum, dif, ≤-or-<}
+use Rattle.whole.proofs.Arith.{up, down, arithℤ, sum, dif}
 use Rattle.wiring.specs.Fit.{lean, Rising, Steady, lowEnd, highEnd, Fits, TooRight, TooLeft}
 
 -- a rising row rises by one at least at each place

@@ -1,17 +1,16 @@
 -- THE THEOREM OF FIT: a legal wiring, of any shape, exists at (s, d) exactly when the rule of fit holds. And what follows from it at once.
-use mathlib.Core.Path.{_≡_, refl, ap}
+use mathlib.Core.Path.{_≡_, ap}
 use mathlib.Core.List.{List}
 use mathlib.Core.Logic.{_↔_}
-use Prim.Native.Nat.{ℕ, zero, suc, _+_, _≤_, _<_}
+use Prim.Native.Nat.{ℕ, suc, _+_, _≤_, _<_}
 use native.Mathlib.Omega.{arith}
-use lib.IntN.{ℤ, pos, _+ℤ_, _-ℤ_}
-use lib.Signed.{_≤ℤ_, _<ℤ_}
+use lib.IntN.{ℤ, pos, _+ℤ_}
 use Rattle.whole.proofs.Arith.{up, down, arithℤ, sum, dif}
 use Rattle.wiring.specs.Wiring.{Point, Legal, Wirable}
-use Rattle.wiring.specs.Fit.{lean, Rising, Steady, lowEnd, highEnd, Fits, TooRight, TooLeft}
+use Rattle.wiring.specs.Fit.{lean, Rising, Fits}
 use Rattle.wiring.specs.Table.{LegalTable}
 use Rattle.wiring.specs.Drawing.{drawn}
-use Rattle.wiring.proofs.Rule.{rising-steady, lean-steady, fits-next, fits-past, right-breaks, left-breaks}
+use Rattle.wiring.proofs.Rule.{rising-steady, lean-steady, fits-next, fits-past}
 use Rattle.wiring.proofs.Diagonal.{left, right}
 use Rattle.wiring.proofs.Build.{ordered-legal}
 use Rattle.wiring.proofs.Drawing.{Clear, drawn-ordered}
@@ -48,13 +47,6 @@ module _ (n s : ℕ) (a b : ℕ → ℤ) (d : ℤ) where
 
     pub fit-exactly : Wirable n s a (shifted b d) ↔ Fits n s (lean a) (lean b) d
     fit-exactly = ((λ w. clear-fits (legal-clear (w .1))), (λ f. (_, drawing-legal .1 f)))
-
-    -- where the rule breaks at i, pads i and i + s prevent every wiring
-    pub right-prevents : {i : ℕ} → TooRight n s (lean a) (lean b) d i → Wirable n s a (shifted b d) → ⊥
-    right-prevents r w = right-breaks r (fit-exactly .0 w)
-
-    pub left-prevents : {i : ℕ} → TooLeft n s (lean a) (lean b) d i → Wirable n s a (shifted b d) → ⊥
-    left-prevents l w = left-breaks l (fit-exactly .0 w)
 
 -- "At s = 0 this forces a_i = b_i + d for every i."
 pub straight : (n : ℕ) (a b : ℕ → ℤ) (d : ℤ) → Fits n 0 (lean a) (lean b) d ↔ ((i : ℕ) → i < n → a i ≡ b i +ℤ d)

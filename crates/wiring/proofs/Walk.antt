@@ -1,14 +1,14 @@
 -- A wire taken apart from its first point on, as the proofs go, and that this is the wire of the definitions.
-use mathlib.Core.Path.{_≡_, refl, ap, sym}
+use mathlib.Core.Path.{_≡_, ap, sym}
 use mathlib.Core.List.{List, [], _∷_}
 use mathlib.Core.Logic.{_⊎_, inl, inr}
-use Prim.Native.Nat.{ℕ, zero, suc, _+_, _-_, _≤_, _<_}
+use Prim.Native.Nat.{ℕ, zero, suc, _-_, _≤_, _<_}
 use native.Mathlib.Decide.{ℕ-discrete}
 use native.Mathlib.Numerals.{add-one}
 use native.Mathlib.Omega.{arith}
 use lib.ListN.{length}
 use lib.IntN.{ℤ}
-use Rattle.wiring.specs.Wiring.{Point, at, nth, Step, Wire, On, Legal}
+use Rattle.wiring.specs.Wiring.{Point, at, nth, Step, Wire, On}
 
 pub same-point : (p q : Point) → p .column ≡ q .column → p .track ≡ q .track → p ≡ q
 same-point p q e f = λ i. record { column = e i; track = f i }

@@ -25,13 +25,13 @@ unfoldable pub along : (x y : ℤ) → ℕ → List Point → List Point
 along x y t rest = cond (leZ x y) (steps east (natAbs (y -ℤ x)) x t rest) (steps west (natAbs (x -ℤ y)) x t rest)
 
 -- from column e t on track t, m tracks up: along the track to column e (t + 1), one step up there, and so on
-unfoldable pub climb : (ℕ → ℤ) → ℕ → ℕ → List Point
-climb e t zero = []
-climb e t (suc m) = along (e t) (e (suc t)) t (at (e (suc t)) (suc t) ∷ climb e (suc t) m)
+unfoldable pub upFrom : (ℕ → ℤ) → ℕ → ℕ → List Point
+upFrom e t zero = []
+upFrom e t (suc m) = along (e t) (e (suc t)) t (at (e (suc t)) (suc t) ∷ upFrom e (suc t) m)
 
 -- the wire that columns e 0 .. e s mean
 unfoldable pub wireOf : (ℕ → ℤ) → ℕ → List Point
-wireOf e s = at (e 0) 0 ∷ climb e 0 s
+wireOf e s = at (e 0) 0 ∷ upFrom e 0 s
 
 -- the points that the columns mean: on a track below s all between two columns of entry, on track s only the last.
 -- That `wireOf` goes through exactly these is the law `wire-fills` of proofs/Build.antt

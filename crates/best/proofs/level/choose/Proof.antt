@@ -4,7 +4,6 @@ use native.Mathlib.Nat.{pos-of-ne-zero}
 use native.Mathlib.Omega.{arith}
 use borrow.Author.Needs.{needs}
 use Rattle.wiring.specs.Wiring.{pad}
-use Rattle.jumper.proofs.Ranges.{empty-test}
 use Rattle.best.proofs.Levels.{from-none}
 use Rattle.best.proofs.Choices.{open-odd, past-odd, trial-few}
 use Rattle.best.proofs.level.choose.Statement.{statement}
@@ -49,14 +48,14 @@ returns-2 c =
     let k = j .before .before .before .before in
     let r = k .try-at .result in
     let a = k .before .before .args in
-    past-odd (a .m) (a .x .now) (a .y .now) (a .h) (a .read) r _ (pos-of-ne-zero (k .before .if1 .left)) (k .try-at .ensures) (sym (empty-test (r .range) _ (j .before .is-empty .ensures)) ∙ j .if2 .taken) (c .try-even2 .ensures)
+    past-odd (a .m) (a .x .now) (a .y .now) (a .h) (a .read) r _ (pos-of-ne-zero (k .before .if1 .left)) (k .try-at .ensures) (sym (j .before .is-empty .ensures .0) ∙ j .if2 .taken) (c .try-even2 .ensures)
 
 returns-3 : tie.Need-returns-3
 returns-3 c =
     let k = c .before .before .before .before in
     let r = k .try-at .result in
     let a = k .before .before .args in
-    open-odd (a .m) (a .x .now) (a .y .now) (a .h) (a .read) r (pos-of-ne-zero (k .before .if1 .left)) (k .try-at .ensures) (sym (empty-test (r .range) _ (c .before .is-empty .ensures)) ∙ c .if2 .left)
+    open-odd (a .m) (a .x .now) (a .y .now) (a .h) (a .read) r (pos-of-ne-zero (k .before .if1 .left)) (k .try-at .ensures) (sym (c .before .is-empty .ensures .0) ∙ c .if2 .left)
 
 pub choose-spec : {M : Type 1} → statement M
 choose-spec =

@@ -2,7 +2,6 @@ use mathlib.Core.Path.{sym, _∙_}
 use Prim.Native.Nat.{_*_}
 use native.Mathlib.Omega.{arith}
 use borrow.Author.Needs.{needs}
-use Rattle.jumper.proofs.Ranges.{empty-test}
 use Rattle.best.proofs.Choices.{empty-even, open-even, trial-few}
 use Rattle.best.proofs.level.try_even.Statement.{statement}
 use Rattle.best.proofs.level.try_even.Tie as tie
@@ -29,14 +28,14 @@ returns c =
     let k = c .before .before .before .before in
     let r = k .try-at .result in
     let a = k .before .args in
-    empty-even (a .m) (a .x .now) (a .y .now) (a .h) (a .read) r (k .try-at .ensures) (sym (empty-test (r .range) _ (c .before .is-empty .ensures)) ∙ c .if1 .taken)
+    empty-even (a .m) (a .x .now) (a .y .now) (a .h) (a .read) r (k .try-at .ensures) (sym (c .before .is-empty .ensures .0) ∙ c .if1 .taken)
 
 returns-2 : tie.Need-returns-2
 returns-2 c =
     let k = c .before .before .before .before in
     let r = k .try-at .result in
     let a = k .before .args in
-    open-even (a .m) (a .x .now) (a .y .now) (a .h) (a .read) r (k .try-at .ensures) (sym (empty-test (r .range) _ (c .before .is-empty .ensures)) ∙ c .if1 .left)
+    open-even (a .m) (a .x .now) (a .y .now) (a .h) (a .read) r (k .try-at .ensures) (sym (c .before .is-empty .ensures .0) ∙ c .if1 .left)
 
 pub try-even-spec : {M : Type 1} → statement M
 try-even-spec = tie.close (tie.spec mul-s try-at-requires add-count is-empty-requires add-best returns returns-2)

@@ -1,6 +1,5 @@
 use mathlib.Core.Path.{sym, _∙_}
 use borrow.Author.Needs.{needs}
-use Rattle.jumper.proofs.Ranges.{empty-test}
 use Rattle.best.proofs.Choices.{read-range, kept-range}
 use Rattle.best.proofs.plan.kept_or_read.Statement.{statement}
 use Rattle.best.proofs.plan.kept_or_read.Tie as tie
@@ -21,7 +20,7 @@ returns-2 : tie.Need-returns-2
 returns-2 c =
     let k = c .before .before .before in
     let a = k .args in
-    kept-range (a .m) (a .x .now) (a .y .now) (a .level) (k .pre) (sym (empty-test (a .level .range) _ (c .before .is-empty .ensures)) ∙ c .if1 .left)
+    kept-range (a .m) (a .x .now) (a .y .now) (a .level) (k .pre) (sym (c .before .is-empty .ensures .0) ∙ c .if1 .left)
 
 pub kept-or-read-spec : {M : Type 1} → statement M
 kept-or-read-spec = tie.close (tie.spec is-empty-requires try-at-requires returns returns-2)

@@ -1,4 +1,4 @@
-use mathlib.Core.Path.{_≡_, sym, _∙_}
+use mathlib.Core.Path.{sym, _∙_}
 use mir.Syntax.{w32}
 use mir.ValLaws.{toZ-ofZ}
 use Rattle.jumper.proofs.Checks.{accepted-shift}
@@ -16,8 +16,8 @@ enum-known-r c = search needs
 enum-told : tie.Need-enum-told
 enum-told c = search needs
 
-climb-requires : tie.Need-climb-requires
-climb-requires c κs = accepted-shift _ _ _ (sym (c .before .before .check-offset .ensures .answer) ∙ c .enum-told .given .1)
+seek-least-requires : tie.Need-seek-least-requires
+seek-least-requires c κs = accepted-shift _ _ _ (sym (c .before .before .check-offset .ensures .answer) ∙ c .enum-told .given .1)
 
 returns : tie.Need-returns
 returns c =
@@ -28,9 +28,9 @@ returns c =
 returns-2 : tie.Need-returns-2
 returns-2 c =
     let s = c .before .before .before .before in
-    rw (toZ-ofZ w32 (s .args .d) (s .fits .d)) at (c .climb .ensures)
+    rw (toZ-ofZ w32 (s .args .d) (s .fits .d)) at (c .seek-least .ensures)
 
 pub least-at-spec : {M : Type 1} → statement M
 least-at-spec =
     tie.close
-    (tie.spec check-offset-requires enum-known-r enum-told climb-requires returns returns-2)
+    (tie.spec check-offset-requires enum-known-r enum-told seek-least-requires returns returns-2)

@@ -1,6 +1,6 @@
 -- The invariant: the least misfit from `from` on is the least of what is left.
 use mathlib.Core.Path.{_≡_, refl, sym, _∙_}
-use Prim.Native.Nat.{_+_, _-_, _≤_}
+use Prim.Native.Nat.{_-_, _≤_}
 use native.Mathlib.Omega.{arith}
 use lib.ListN.{length}
 use mir.Syntax.{w32}
@@ -26,8 +26,14 @@ loop-holds c = (search needs, search needs, refl)
 add-loop : tie.Need-add-loop Inv-loop μ-loop
 add-loop c = search needs
 
+add-loop-2 : tie.Need-add-loop-2 Inv-loop μ-loop
+add-loop-2 c = search needs
+
 too-right-requires : tie.Need-too-right-requires Inv-loop μ-loop
-too-right-requires c κs = search needs
+too-right-requires c κs =
+    let k = c .before in
+    let d = k .before in
+    rw (toZ-ofZ w32 (d .args .d) (d .fits .d)) (record { rows = d .pre .0 .rows; offset = d .pre .0 .offset }, omega (arith, c .loop-test .taken, k .loop .inv .1))
 
 returns : tie.Need-returns Inv-loop μ-loop
 returns c =
@@ -37,7 +43,11 @@ returns c =
     sym (rw e at (k .loop .inv .2 ∙ right-here (leanOf (d .args .a .now)) (leanOf (d .args .b .now)) (d .args .s) _ (length (d .args .a .now)) (k .loop .i) (search needs) (sym (c .before .too-right .ensures) ∙ c .if1 .taken)))
 
 too-left-requires : tie.Need-too-left-requires Inv-loop μ-loop
-too-left-requires c κs = search needs
+too-left-requires c κs =
+    let t = c .before .before in
+    let k = t .before in
+    let d = k .before in
+    rw (toZ-ofZ w32 (d .args .d) (d .fits .d)) (record { rows = d .pre .0 .rows; offset = d .pre .0 .offset }, omega (arith, t .loop-test .taken, k .loop .inv .1))
 
 returns-2 : tie.Need-returns-2 Inv-loop μ-loop
 returns-2 c =
@@ -73,6 +83,7 @@ misfit-from-spec =
     μ-loop
     loop-holds
     add-loop
+    add-loop-2
     too-right-requires
     returns
     too-left-requires

@@ -1,14 +1,3 @@
-use mathlib.Core.Path.{_≡_}
-use Prim.Native.Nat.{_+_, _<_}
-use native.Mathlib.Omega.{arith}
-use lib.ListN.{length}
-use lib.IntN.{pos, _+ℤ_}
-use mir.Syntax.{w32}
-use mir.ValLaws.{toZ-ofZ, toZ-pos}
-use Rattle.whole.proofs.Machine.{back}
-use Rattle.wiring.specs.Wiring.{pad}
-use Rattle.fit.proofs.Ends.{right-test, fit-top, fit-top-on}
-use mathlib.Core.Path.{_≡_, sym}
 use Prim.Native.Nat.{_+_, _<_}
 use native.Mathlib.Omega.{arith}
 use lib.ListN.{length}

@@ -1,6 +1,6 @@
 -- The invariant: low and high are the largest low gap and the smallest high gap of the pairs 0 to i.
-use mathlib.Core.Path.{_≡_, sym, ap, _∙_}
-use Prim.Native.Nat.{_+_, _-_, _≤_, _<_}
+use mathlib.Core.Path.{_≡_, sym, _∙_}
+use Prim.Native.Nat.{_-_, _≤_}
 use native.Mathlib.Omega.{arith}
 use borrow.Author.Needs.{sfits-of}
 use lib.ListN.{length}

@@ -1,69 +1,95 @@
--- The invariant: the place looked for isn't before i. Before it every high end is higher.
-use mathlib.Core.Path.{_≡_, sym, ap, _∙_}
-use mathlib.Core.Logic.{⊎-elim}
-use Prim.Native.Nat.{_+_, _-_, _≤_, _<_}
+-- The invariant: the place looked for isn't before i. Before it every gap is higher.
+use mathlib.Core.Path.{_≡_, sym, _∙_}
+use Prim.Native.Nat.{_+_, _-_, _≤_}
 use native.Mathlib.Omega.{arith}
-use borrow.Author.Needs.{sfits-of}
+use borrow.Author.Needs.{needs, sfits-of}
 use lib.ListN.{length}
 use mir.Syntax.{w32}
-use mir.ValLaws.{toZ-ofZ}
-use Rattle.whole.proofs.Arith.{arithℤ}
-use Rattle.wiring.specs.Fit.{leanOf}
-use Rattle.jumper.specs.Span.{highestAt}
-use Rattle.fit.proofs.Spans.{high-before, high-here, high-inside}
-use borrow.Author.Needs.{needs}
+use mir.Val.{toZ}
+use mir.ValLaws.{toZ-ofZ, toZ-pos}
+use Rattle.whole.specs.Pick.{smallestAt}
+use Rattle.whole.proofs.Machine.{back}
+use Rattle.whole.proofs.Extremes.{smallest-law, smallest-later, smallest-here}
+use Rattle.fit.specs.Offsets.{highGap, gapsOf}
+use Rattle.fit.proofs.Ends.{fit-difference}
+use Rattle.fit.proofs.Spans.{high-at, gap-of-high}
 use Rattle.fit.proofs.offsets.high_place.Statement.{statement}
 use Rattle.fit.proofs.offsets.high_place.Tie as tie
 
 abbrev Inv-loop : tie.InvT-loop
-Inv-loop a b s high i₀ i = i ≤ highestAt (length a) (leanOf a) (leanOf b) s
+Inv-loop a b s high gap i₀ i = (toZ w32 gap ≡ gapsOf a b s .high) × (i ≤ smallestAt (highGap a b s) (length a - s - 1))
 
 abbrev μ-loop : tie.MeasureT-loop
-μ-loop a b s high i₀ i = highestAt (length a) (leanOf a) (leanOf b) s - i
+μ-loop a b s high gap i₀ i = smallestAt (highGap a b s) (length a - s - 1) - i
+
+cast-gap : tie.Need-cast-gap Inv-loop μ-loop
+cast-gap c = search needs
+
+add-gap : tie.Need-add-gap Inv-loop μ-loop
+add-gap c =
+    let s = c .args .s in
+    let a = c .args .a .now in
+    let b = c .args .b .now in
+    let r = c .pre .0 .rows in
+    let i = smallestAt (highGap a b s) (length a - s - 1) in
+    rw (toZ-ofZ w32 (c .args .high) (c .fits .high), toZ-pos w32 s (omega (arith, r .few, c .pre .1)), c .pre .2, gap-of-high a b s) (record { sfits = fit-difference r s (i + s) i (c .pre .1) })
 
 loop-holds : tie.Need-loop-holds Inv-loop μ-loop
-loop-holds c = omega arith
+loop-holds c =
+    let s = c .args .s in
+    let a = c .args .a .now in
+    let b = c .args .b .now in
+    let r = c .pre .0 .rows in
+    let i = smallestAt (highGap a b s) (length a - s - 1) in
+    (rw (toZ-ofZ w32 (c .args .high) (c .fits .high), toZ-pos w32 s (omega (arith, r .few, c .pre .1)), c .pre .2, gap-of-high a b s) (back (gapsOf a b s .high) (fit-difference r s (i + s) i (c .pre .1))), omega arith)
 
-high-end-requires : tie.Need-high-end-requires Inv-loop μ-loop
-high-end-requires c κs =
-    let d = c .before in (d .pre .0, high-inside (d .args .a .now) (d .args .b .now) (d .args .s) (c .loop .i) (d .pre .1) (c .loop .inv))
+high-gap-requires : tie.Need-high-gap-requires Inv-loop μ-loop
+high-gap-requires c κs =
+    let d = c .before in
+    let a = d .args .a .now in
+    let s = d .args .s in
+    (d .pre .0, omega (arith, c .loop .inv .1, d .pre .1, smallest-law (highGap a (d .args .b .now) s) (length a - s - 1) .within))
 
 add-i : tie.Need-add-i Inv-loop μ-loop
 add-i c =
     let k = c .before .before in
     let d = k .before in
-    let l = c .before .high-end in
-    let t = rw (toZ-ofZ w32 (l .result) (sfits-of (l .ok)), l .ensures, toZ-ofZ w32 (d .args .high) (d .fits .high), d .pre .2) at (c .if1 .taken) in
-    let g = high-before (d .args .a .now) (d .args .b .now) (d .args .s) (k .loop .i) (d .pre .1) (k .loop .inv) t in
-    record { fits = omega (arith, d .pre .0 .rows .few, high-inside (d .args .a .now) (d .args .b .now) (d .args .s) (k .loop .i) (d .pre .1) (k .loop .inv)) }
+    let a = d .args .a .now in
+    let b = d .args .b .now in
+    let l = c .before .high-gap in
+    let g = smallest-later (highGap a b (d .args .s)) (length a - d .args .s - 1) (k .loop .i) (k .loop .inv .1) (rw (toZ-ofZ w32 (l .result) (sfits-of (l .ok)), l .ensures, k .loop .inv .0) at (c .if1 .taken)) in
+    record { fits = omega (arith, d .pre .0 .rows .few, smallest-law (highGap a b (d .args .s)) (length a - d .args .s - 1) .within) }
 
 loop-less : tie.Need-loop-less Inv-loop μ-loop
 loop-less c =
     let k = c .before .before in
     let d = k .before in
-    let l = c .before .high-end in
-    let t = rw (toZ-ofZ w32 (l .result) (sfits-of (l .ok)), l .ensures, toZ-ofZ w32 (d .args .high) (d .fits .high), d .pre .2) at (c .if1 .taken) in
-    let g = high-before (d .args .a .now) (d .args .b .now) (d .args .s) (k .loop .i) (d .pre .1) (k .loop .inv) t in
+    let a = d .args .a .now in
+    let b = d .args .b .now in
+    let l = c .before .high-gap in
+    let g = smallest-later (highGap a b (d .args .s)) (length a - d .args .s - 1) (k .loop .i) (k .loop .inv .1) (rw (toZ-ofZ w32 (l .result) (sfits-of (l .ok)), l .ensures, k .loop .inv .0) at (c .if1 .taken)) in
     omega arith
 
 loop-again : tie.Need-loop-again Inv-loop μ-loop
 loop-again c =
     let k = c .before .before in
     let d = k .before in
-    let l = c .before .high-end in
-    let t = rw (toZ-ofZ w32 (l .result) (sfits-of (l .ok)), l .ensures, toZ-ofZ w32 (d .args .high) (d .fits .high), d .pre .2) at (c .if1 .taken) in
-    let g = high-before (d .args .a .now) (d .args .b .now) (d .args .s) (k .loop .i) (d .pre .1) (k .loop .inv) t in
-    omega arith
+    let a = d .args .a .now in
+    let b = d .args .b .now in
+    let l = c .before .high-gap in
+    let g = smallest-later (highGap a b (d .args .s)) (length a - d .args .s - 1) (k .loop .i) (k .loop .inv .1) (rw (toZ-ofZ w32 (l .result) (sfits-of (l .ok)), l .ensures, k .loop .inv .0) at (c .if1 .taken)) in
+    (k .loop .inv .0, omega arith)
 
 returns : tie.Need-returns Inv-loop μ-loop
 returns c =
     let k = c .before .before in
     let d = k .before in
-    let l = c .before .high-end in
-    let t = rw (toZ-ofZ w32 (l .result) (sfits-of (l .ok)), l .ensures, toZ-ofZ w32 (d .args .high) (d .fits .high), d .pre .2) at (c .if1 .left) in
-    high-here (d .args .a .now) (d .args .b .now) (d .args .s) (k .loop .i) (d .pre .1) (k .loop .inv) t
+    let a = d .args .a .now in
+    let b = d .args .b .now in
+    let l = c .before .high-gap in
+    smallest-here (highGap a b (d .args .s)) (length a - d .args .s - 1) (k .loop .i) (k .loop .inv .1) (rw (toZ-ofZ w32 (l .result) (sfits-of (l .ok)), l .ensures, k .loop .inv .0) at (c .if1 .left)) ∙ sym (high-at a b (d .args .s))
 
 pub high-place-spec : {M : Type 1} → statement M
 high-place-spec =
     tie.close
-    (tie.spec Inv-loop μ-loop loop-holds high-end-requires add-i loop-less loop-again returns)
+    (tie.spec Inv-loop μ-loop cast-gap add-gap loop-holds high-gap-requires add-i loop-less loop-again returns)

@@ -1,4 +1,4 @@
-use mathlib.Core.Path.{_≡_, sym, _∙_}
+use mathlib.Core.Path.{sym, _∙_}
 use Rattle.jumper.proofs.Checks.{accepted-tracks}
 use Rattle.fit.proofs.Spans.{range-refused, range-answer}
 use borrow.Author.Needs.{needs}

@@ -1,4 +1,4 @@
-use mathlib.Core.Path.{_≡_, sym, ap, _∙_}
+use mathlib.Core.Path.{sym, ap, _∙_}
 use lib.ListN.{length}
 use mir.Facts.{toZ-ofZ}
 use mir.Syntax.{w32}
@@ -20,6 +20,9 @@ returns c = let d = c .before .before in ap Range (c .whole .ensures .0) ∙ sym
 range-of-requires : tie.Need-range-of-requires
 range-of-requires c κs = search needs
 
+is-empty-requires : tie.Need-is-empty-requires
+is-empty-requires c κs = search needs
+
 low-place-requires : tie.Need-low-place-requires
 low-place-requires c κs =
     let k = c .before .before .before in
@@ -28,26 +31,25 @@ low-place-requires c κs =
 
 high-place-requires : tie.Need-high-place-requires
 high-place-requires c κs =
-    let k = c .before .before .before .before in
+    let k = c .before .before .before .before .before in
     let f : SFits w32 (k .range-of .result .high) = search needs in
     (k .before .before .pre, k .before .if1 .left, toZ-ofZ f ∙ ap (λ (r : OffsetRange). r .high) (k .range-of .ensures))
 
 returns-2 : tie.Need-returns-2
 returns-2 c =
-    let k = c .before .before .before .before .before in
+    let t = c .before .before .before .before in
+    let e = t .before in
+    let k = e .before in
     let d = k .before .before in
-    let fl : SFits w32 (k .range-of .result .low) = search needs in
-    let fh : SFits w32 (k .range-of .result .high) = search needs in
-    let t = rw (toZ-ofZ fl, toZ-ofZ fh, k .range-of .ensures) at (c .before .before .if2 .taken) in
-    rw (c .before .low-place .ensures, c .high-place .ensures) (sym (empty-range (length (d .args .a .now)) (leanOf (d .args .a .now)) (leanOf (d .args .b .now)) (d .args .s) (k .before .if1 .left) t))
+    let t = rw (k .range-of .ensures) at (sym (e .is-empty .ensures .0) ∙ t .if2 .taken) in
+    rw (c .before .before .low-place .ensures, c .high-place .ensures) (sym (empty-range (length (d .args .a .now)) (leanOf (d .args .a .now)) (leanOf (d .args .b .now)) (d .args .s) (k .before .if1 .left) t))
 
 returns-3 : tie.Need-returns-3
 returns-3 c =
-    let k = c .before .before .before in
+    let e = c .before in
+    let k = e .before in
     let d = k .before .before in
-    let fl : SFits w32 (k .range-of .result .low) = search needs in
-    let fh : SFits w32 (k .range-of .result .high) = search needs in
-    let t = rw (toZ-ofZ fl, toZ-ofZ fh, k .range-of .ensures) at (c .if2 .left) in
+    let t = rw (k .range-of .ensures) at (sym (e .is-empty .ensures .0) ∙ c .if2 .left) in
     ap Range (k .range-of .ensures) ∙ sym (some-range (length (d .args .a .now)) (leanOf (d .args .a .now)) (leanOf (d .args .b .now)) (d .args .s) (k .before .if1 .left) t)
 
 pub range-found-spec : {M : Type 1} → statement M
@@ -57,6 +59,7 @@ range-found-spec =
     whole-requires
     returns
     range-of-requires
+    is-empty-requires
     low-place-requires
     high-place-requires
     returns-2

@@ -1,13 +1,10 @@
-use mathlib.Core.Path.{_≡_}
 use Prim.Native.Nat.{_+_, _-_}
 use native.Mathlib.Omega.{arith}
-use lib.ListN.{length}
 use lib.IntN.{pos, _+ℤ_, _-ℤ_}
 use mir.ValLaws.{toZ-pos}
-use Rattle.whole.specs.Pick.{largestAt, smallestAt}
 use Rattle.whole.proofs.Machine.{back}
-use Rattle.fit.specs.Offsets.{lowGap, highGap, gapsOf}
-use Rattle.fit.proofs.Ends.{fit-low, fit-high}
+use Rattle.fit.specs.Offsets.{gapsOf}
+use Rattle.fit.proofs.Ends.{fit-low-gap, fit-high-gap}
 use Rattle.fit.proofs.Spans.{low-of-gaps, high-of-gaps}
 use mir.Facts.{toZ-ofZ}
 use mir.Syntax.{w32}
@@ -27,17 +24,9 @@ add-t8 c =
     let k = c .before .before in
     let d = k .before in
     let s = d .args .s in
-    let a = d .args .a .now in
-    let b = d .args .b .now in
     let r = d .pre .0 .rows in
-    let fl : SFits w32 (k .gaps-of .result .low) = search needs in
-    let fh : SFits w32 (k .gaps-of .result .high) = search needs in
-    let p = toZ-pos w32 s (omega (arith, r .few, d .pre .1)) in
-    let i = largestAt (lowGap a b s) (length a - s - 1) in
-    let j = smallestAt (highGap a b s) (length a - s - 1) in
-    let l = fit-low r s i (i + s) (d .pre .1) in
-    let h = fit-high r s (j + s) j (d .pre .1) in
-    rw (toZ-ofZ fl, p, k .gaps-of .ensures) (record { sfits = l })
+    let f : SFits w32 (k .gaps-of .result .low) = search needs in
+    rw (toZ-ofZ f, toZ-pos w32 s (omega (arith, r .few, d .pre .1)), k .gaps-of .ensures) (record { sfits = fit-low-gap r s (d .pre .1) })
 
 cast-t9 : tie.Need-cast-t9
 cast-t9 c = search needs
@@ -47,17 +36,9 @@ sub-t10 c =
     let k = c .before .before in
     let d = k .before in
     let s = d .args .s in
-    let a = d .args .a .now in
-    let b = d .args .b .now in
     let r = d .pre .0 .rows in
-    let fl : SFits w32 (k .gaps-of .result .low) = search needs in
-    let fh : SFits w32 (k .gaps-of .result .high) = search needs in
-    let p = toZ-pos w32 s (omega (arith, r .few, d .pre .1)) in
-    let i = largestAt (lowGap a b s) (length a - s - 1) in
-    let j = smallestAt (highGap a b s) (length a - s - 1) in
-    let l = fit-low r s i (i + s) (d .pre .1) in
-    let h = fit-high r s (j + s) j (d .pre .1) in
-    rw (toZ-ofZ fh, p, k .gaps-of .ensures) (record { sfits = h })
+    let f : SFits w32 (k .gaps-of .result .high) = search needs in
+    rw (toZ-ofZ f, toZ-pos w32 s (omega (arith, r .few, d .pre .1)), k .gaps-of .ensures) (record { sfits = fit-high-gap r s (d .pre .1) })
 
 returns : tie.Need-returns
 returns c =
@@ -69,12 +50,7 @@ returns c =
     let r = d .pre .0 .rows in
     let fl : SFits w32 (k .gaps-of .result .low) = search needs in
     let fh : SFits w32 (k .gaps-of .result .high) = search needs in
-    let p = toZ-pos w32 s (omega (arith, r .few, d .pre .1)) in
-    let i = largestAt (lowGap a b s) (length a - s - 1) in
-    let j = smallestAt (highGap a b s) (length a - s - 1) in
-    let l = fit-low r s i (i + s) (d .pre .1) in
-    let h = fit-high r s (j + s) j (d .pre .1) in
-    rw (toZ-ofZ fl, toZ-ofZ fh, p, k .gaps-of .ensures, back (gapsOf a b s .low +ℤ pos s) l, back (gapsOf a b s .high -ℤ pos s) h, low-of-gaps a b s, high-of-gaps a b s)
+    rw (toZ-ofZ fl, toZ-ofZ fh, toZ-pos w32 s (omega (arith, r .few, d .pre .1)), k .gaps-of .ensures, back (gapsOf a b s .low +ℤ pos s) (fit-low-gap r s (d .pre .1)), back (gapsOf a b s .high -ℤ pos s) (fit-high-gap r s (d .pre .1)), low-of-gaps a b s, high-of-gaps a b s)
 
 pub range-of-spec : {M : Type 1} → statement M
 range-of-spec = tie.close (tie.spec gaps-of-requires cast-t7 add-t8 cast-t9 sub-t10 returns)

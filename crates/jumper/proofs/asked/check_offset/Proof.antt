@@ -1,6 +1,6 @@
 use mir.Syntax.{w32}
 use mir.ValLaws.{toZ-ofZ}
-use mathlib.Core.Path.{_≡_, sym, _∙_}
+use mathlib.Core.Path.{sym, _∙_}
 use Rattle.jumper.proofs.Checks.{or-first, or-second, offset-check}
 use borrow.Author.Needs.{needs}
 use Rattle.jumper.proofs.asked.check_offset.Statement.{statement}

@@ -1,4 +1,4 @@
-use mathlib.Core.Path.{_≡_, sym, _∙_}
+use mathlib.Core.Path.{sym, _∙_}
 use Rattle.jumper.proofs.Checks.{or-first, or-second, tracks-check}
 use borrow.Author.Needs.{needs}
 use Rattle.jumper.proofs.asked.check_tracks.Statement.{statement}

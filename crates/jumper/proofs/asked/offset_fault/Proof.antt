@@ -1,6 +1,5 @@
 use mir.Syntax.{w32}
 use mir.ValLaws.{toZ-ofZ}
-use borrow.Author.Needs.{needs}
 use Rattle.jumper.proofs.asked.offset_fault.Statement.{statement}
 use Rattle.jumper.proofs.asked.offset_fault.Tie as tie
 

@@ -1,5 +1,4 @@
 use borrow.Author.Tests.{lt-ltb, le-ltb}
-use borrow.Author.Needs.{needs}
 use Rattle.jumper.proofs.asked.tracks_fault.Statement.{statement}
 use Rattle.jumper.proofs.asked.tracks_fault.Tie as tie
 

@@ -1,4 +1,4 @@
-use mathlib.Core.Path.{_≡_, sym}
+use mathlib.Core.Path.{sym}
 use Rattle.jumper.proofs.Accepted.{of-rowFault}
 use borrow.Author.Needs.{needs}
 use Rattle.jumper.proofs.rows.row_fault.Statement.{statement}

@@ -2,15 +2,15 @@
 use mathlib.Core.Path.{_≡_, sym, _∙_}
 use Prim.Native.Nat.{_≤_, _-_, _+_}
 use native.Mathlib.Nat.{add-zero}
-use native.Mathlib.Omega.{arith}
 use borrow.Author.Needs.{needs}
 use lib.ListN.{length, drop}
 use mir.Syntax.{w32}
 use mir.Val.{toZ}
+use Rattle.whole.proofs.Order.{untrue}
 use Rattle.whole.proofs.Machine.{back}
 use Rattle.wiring.specs.Wiring.{pad}
 use Rattle.jumper.specs.Rows.{rowFault, faultAfter}
-use Rattle.jumper.proofs.Faults.{low, high, order, next, done}
+use Rattle.jumper.proofs.Faults.{column, order, next, done}
 use Rattle.jumper.proofs.rows.seek_fault.Statement.{statement}
 use Rattle.jumper.proofs.rows.seek_fault.Tie as tie
 
@@ -32,38 +32,32 @@ mul-x c = search needs
 shared-slice-copy-out-x : tie.Need-shared-slice-copy-out-x Inv-loop μ-loop
 shared-slice-copy-out-x c = search needs
 
-add-t10 : tie.Need-add-t10 Inv-loop μ-loop
-add-t10 c = search needs
-
-returns : tie.Need-returns Inv-loop μ-loop
-returns c =
-    let k = c .before .before .before in
-    let a = k .before .args .a .now in
-    let e = back (pad a (k .loop .i)) (c .before .x .given) in
-    sym (k .loop .inv .1 ∙ low a _ (k .before .args .base) (k .loop .i) (c .before .before .loop-test .taken) (rw e at (c .if1 .taken)))
+out-of-range-requires : tie.Need-out-of-range-requires Inv-loop μ-loop
+out-of-range-requires c κs = search needs
 
 add-t12 : tie.Need-add-t12 Inv-loop μ-loop
 add-t12 c = search needs
 
-returns-2 : tie.Need-returns-2 Inv-loop μ-loop
-returns-2 c =
-    let k = c .before .before .before .before in
+returns : tie.Need-returns Inv-loop μ-loop
+returns c =
+    let x = c .before .before in
+    let k = x .before .before in
     let a = k .before .args .a .now in
-    let e = back (pad a (k .loop .i)) (c .before .before .x .given) in
-    sym (k .loop .inv .1 ∙ high a _ (k .before .args .base) (k .loop .i) (c .before .before .before .loop-test .taken) (rw e at (c .before .if1 .left)) (rw e at (c .if2 .taken)))
+    let e = back (pad a (k .loop .i)) (x .x .given) in
+    let o = rw e at (c .before .out-of-range .ensures) in
+    sym (k .loop .inv .1 ∙ column a _ (k .before .args .base) (k .loop .i) (x .before .loop-test .taken) (λ r. untrue (sym (o .1 r) ∙ c .if1 .taken)))
 
 add-t14 : tie.Need-add-t14 Inv-loop μ-loop
 add-t14 c = search needs
 
-returns-3 : tie.Need-returns-3 Inv-loop μ-loop
-returns-3 c =
-    let k = c .before .before .before .before .before in
+returns-2 : tie.Need-returns-2 Inv-loop μ-loop
+returns-2 c =
+    let x = c .before .before .before in
+    let k = x .before .before in
     let a = k .before .args .a .now in
-    let e = back (pad a (k .loop .i)) (c .before .before .before .x .given) in
-    sym
-    (k .loop .inv .1
-    ∙ order a _ (k .before .args .base) (k .loop .i) (c .before .before .before .before .loop-test .taken) (rw e at (c .before .before .if1 .left))
-    (rw e at (c .before .if2 .left)) (rw e at (c .if3 .taken)))
+    let e = back (pad a (k .loop .i)) (x .x .given) in
+    let o = rw e at (c .before .before .out-of-range .ensures) in
+    sym (k .loop .inv .1 ∙ order a _ (k .before .args .base) (k .loop .i) (x .before .loop-test .taken) (o .0 (c .before .if1 .left)) (rw e at (c .if2 .taken)))
 
 add-i : tie.Need-add-i Inv-loop μ-loop
 add-i c = search needs
@@ -73,18 +67,19 @@ loop-less c = search needs
 
 loop-again : tie.Need-loop-again Inv-loop μ-loop
 loop-again c =
-    let k = c .before .before .before .before .before in
+    let x = c .before .before .before in
+    let k = x .before .before in
     let a = k .before .args .a .now in
-    let e = back (pad a (k .loop .i)) (c .before .before .before .x .given) in (
+    let e = back (pad a (k .loop .i)) (x .x .given) in
+    let o = rw e at (c .before .before .out-of-range .ensures) in (
       search needs,
       rw e
           (k .loop .inv .1
-          ∙ next a _ (k .before .args .base) (k .loop .i) (c .before .before .before .before .loop-test .taken) (rw e at (c .before .before .if1 .left))
-          (rw e at (c .before .if2 .left)) (rw e at (c .if3 .left))),
+          ∙ next a _ (k .before .args .base) (k .loop .i) (x .before .loop-test .taken) (o .0 (c .before .if1 .left)) (rw e at (c .if2 .left))),
     )
 
-returns-4 : tie.Need-returns-4 Inv-loop μ-loop
-returns-4 c = sym (c .before .loop .inv .1 ∙ done _ _ _ _ (c .loop-test .left))
+returns-3 : tie.Need-returns-3 Inv-loop μ-loop
+returns-3 c = sym (c .before .loop .inv .1 ∙ done _ _ _ _ (c .loop-test .left))
 
 pub seek-fault-spec : {M : Type 1} → statement M
 seek-fault-spec =
@@ -96,13 +91,12 @@ seek-fault-spec =
     loop-holds
     mul-x
     shared-slice-copy-out-x
-    add-t10
-    returns
+    out-of-range-requires
     add-t12
-    returns-2
+    returns
     add-t14
-    returns-3
+    returns-2
     add-i
     loop-less
     loop-again
-    returns-4)
+    returns-3)

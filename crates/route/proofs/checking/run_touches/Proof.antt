@@ -17,25 +17,25 @@ add-if1 c = search needs
 add-if2 : tie.Need-add-if2
 add-if2 c = search needs
 
-add-lowest-of : tie.Need-add-lowest-of
-add-lowest-of c = search needs
+add-leftmost-of : tie.Need-add-leftmost-of
+add-leftmost-of c = search needs
 
-lowest-of-requires : tie.Need-lowest-of-requires
-lowest-of-requires c κs =
+leftmost-of-requires : tie.Need-leftmost-of-requires
+leftmost-of-requires c κs =
     let s = c .before .before .args in
     let h = place-in (s .n) (s .s) (s .i + 1) (s .t + 1) (c .if2 .taken) (omega arith) in
     search needs
 
-highest-of-requires : tie.Need-highest-of-requires
-highest-of-requires c κs =
+rightmost-of-requires : tie.Need-rightmost-of-requires
+rightmost-of-requires c κs =
     let s = c .before .before .before .args in
     let h = place-in (s .n) (s .s) (s .i) (s .t + 1) (omega arith) (omega arith) in
     search needs
 
 returns : tie.Need-returns
 returns c =
-    let x = c .before .lowest-of in
-    let y = c .highest-of in
+    let x = c .before .leftmost-of in
+    let y = c .rightmost-of in
     let s = c .before .before .before .before .args in
     let ex = toZ-ofZ w32 (x .result) (sfits-of (x .ok)) ∙ x .ensures in
     let ey = toZ-ofZ w32 (y .result) (sfits-of (y .ok)) ∙ y .ensures in
@@ -53,9 +53,9 @@ run-touches-spec =
     (tie.spec
     add-if1
     add-if2
-    add-lowest-of
-    lowest-of-requires
-    highest-of-requires
+    add-leftmost-of
+    leftmost-of-requires
+    rightmost-of-requires
     returns
     returns-2
     returns-3)

@@ -11,7 +11,7 @@ returns c =
     let r = c .before .before .args .self in
     let fl : SFits w32 (r .low) = search needs in
     let fh : SFits w32 (r .high) = search needs in
-    simp (toZ-ofZ fl, toZ-ofZ fh) (empty-exactly r)
+    (simp (toZ-ofZ fl, toZ-ofZ fh), simp (toZ-ofZ fl, toZ-ofZ fh) (empty-exactly r))
 
 pub is-empty-spec : {M : Type 1} → statement M
 is-empty-spec = tie.close (tie.spec returns)

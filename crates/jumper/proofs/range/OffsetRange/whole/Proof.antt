@@ -1,4 +1,4 @@
-use mathlib.Core.Path.{_≡_, refl}
+use mathlib.Core.Path.{refl}
 use Rattle.jumper.proofs.range.OffsetRange.whole.Statement.{statement}
 use Rattle.jumper.proofs.range.OffsetRange.whole.Tie as tie
 

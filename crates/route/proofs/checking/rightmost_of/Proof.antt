@@ -3,8 +3,8 @@ use native.Mathlib.Numerals.{add-one}
 use borrow.Author.Needs.{needs, sfits-of}
 use mir.Syntax.{w32}
 use mir.ValLaws.{toZ-ofZ}
-use Rattle.route.proofs.checking.highest_of.Statement.{statement}
-use Rattle.route.proofs.checking.highest_of.Tie as tie
+use Rattle.route.proofs.checking.rightmost_of.Statement.{statement}
+use Rattle.route.proofs.checking.rightmost_of.Tie as tie
 
 column-in-requires : tie.Need-column-in-requires
 column-in-requires c κs = search needs
@@ -26,7 +26,7 @@ returns c =
     let ey = toZ-ofZ w32 (y .result) (sfits-of (y .ok)) ∙ y .ensures in
     toZ-ofZ w32 (c .larger .result) (sfits-of (c .larger .ok)) ∙ rw (ex, ey, add-one) at (c .larger .ensures)
 
-pub highest-of-spec : {M : Type 1} → statement M
-highest-of-spec =
+pub rightmost-of-spec : {M : Type 1} → statement M
+rightmost-of-spec =
     tie.close
     (tie.spec column-in-requires add-column-in column-in-requires-2 larger-requires returns)

@@ -1,6 +1,6 @@
-use Rattle.route.proofs.Faults.{bits-differ}
-use Rattle.route.proofs.checking.differs.Statement.{statement}
-use Rattle.route.proofs.checking.differs.Tie as tie
+use Rattle.whole.proofs.Machine.{bits-differ}
+use Rattle.whole.proofs.differs.Statement.{statement}
+use Rattle.whole.proofs.differs.Tie as tie
 
 returns : tie.Need-returns
 returns c = bits-differ (c .args .x) (c .args .y) (c .fits .x) (c .fits .y)

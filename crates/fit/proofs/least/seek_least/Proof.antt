@@ -1,24 +1,24 @@
-use mathlib.Core.Path.{_≡_, sym, ap, _∙_}
-use Prim.Native.Nat.{_+_, _-_, _≤_, _<_}
+use mathlib.Core.Path.{sym, _∙_}
+use Prim.Native.Nat.{_-_}
 use native.Mathlib.Nat.{pos-of-ne-zero}
 use native.Mathlib.Omega.{arith}
 use lib.ListN.{length}
 use mir.Syntax.{w32}
 use mir.Val.{toZ}
 use mir.ValLaws.{toZ-ofZ}
-use Rattle.fit.proofs.Leasts.{Climbing, climb-start, climb-asked, climb-next, climb-straight, climb-tracks}
+use Rattle.fit.proofs.Leasts.{Seeking, seek-start, seek-asked, seek-next, seek-straight, seek-tracks}
 use borrow.Author.Needs.{needs}
-use Rattle.fit.proofs.least.climb.Statement.{statement}
-use Rattle.fit.proofs.least.climb.Tie as tie
+use Rattle.fit.proofs.least.seek_least.Statement.{statement}
+use Rattle.fit.proofs.least.seek_least.Tie as tie
 
 abbrev Inv-loop : tie.InvT-loop
-Inv-loop a b d s₀ i₀ right₀ s i right = Climbing a b (toZ w32 d) s i right
+Inv-loop a b d s₀ i₀ right₀ s i right = Seeking a b (toZ w32 d) s i right
 
 abbrev μ-loop : tie.MeasureT-loop
 μ-loop a b d s₀ i₀ right₀ s i right = length a - s
 
 loop-holds : tie.Need-loop-holds Inv-loop μ-loop
-loop-holds c = climb-start _ _ _
+loop-holds c = seek-start _ _ _
 
 misfit-from-requires : tie.Need-misfit-from-requires Inv-loop μ-loop
 misfit-from-requires c κs =
@@ -26,7 +26,7 @@ misfit-from-requires c κs =
     let s = k .before in
     let e = toZ-ofZ w32 (s .args .d) (s .fits .d) in
     let v = rw e at (k .loop .inv) in
-    rw e (climb-asked _ _ _ (s .pre) _ _ _ v, v .start)
+    rw e (seek-asked _ _ _ (s .pre) _ _ _ v, v .start)
 
 enum-told : tie.Need-enum-told Inv-loop μ-loop
 enum-told c = search needs
@@ -37,7 +37,7 @@ returns c =
     let s = k .before in
     let e = toZ-ofZ w32 (s .args .d) (s .fits .d) in
     let v = rw e at (k .loop .inv) in
-    climb-straight _ _ _ (s .pre) _ _ _ v (sym (rw e at (c .before .before .before .misfit-from .ensures)) ∙ c .before .enum-told .given .1) (c .if1 .taken)
+    seek-straight _ _ _ (s .pre) _ _ _ v (sym (rw e at (c .before .before .before .misfit-from .ensures)) ∙ c .before .enum-told .given .1) (c .if1 .taken)
 
 returns-2 : tie.Need-returns-2 Inv-loop μ-loop
 returns-2 c =
@@ -45,7 +45,7 @@ returns-2 c =
     let s = k .before in
     let e = toZ-ofZ w32 (s .args .d) (s .fits .d) in
     let v = rw e at (k .loop .inv) in
-    rw (c .if2 .taken) at (climb-tracks (s .args .a .now) (s .args .b .now) (s .args .d) (s .pre) _ _ _ v (sym (rw e at (c .before .before .before .before .misfit-from .ensures)) ∙ c .before .before .enum-told .given .1) (pos-of-ne-zero (c .before .if1 .left)))
+    rw (c .if2 .taken) at (seek-tracks (s .args .a .now) (s .args .b .now) (s .args .d) (s .pre) _ _ _ v (sym (rw e at (c .before .before .before .before .misfit-from .ensures)) ∙ c .before .before .enum-told .given .1) (pos-of-ne-zero (c .before .if1 .left)))
 
 returns-3 : tie.Need-returns-3 Inv-loop μ-loop
 returns-3 c =
@@ -53,7 +53,7 @@ returns-3 c =
     let s = k .before in
     let e = toZ-ofZ w32 (s .args .d) (s .fits .d) in
     let v = rw e at (k .loop .inv) in
-    rw (c .if2 .left) at (climb-tracks (s .args .a .now) (s .args .b .now) (s .args .d) (s .pre) _ _ _ v (sym (rw e at (c .before .before .before .before .misfit-from .ensures)) ∙ c .before .before .enum-told .given .1) (pos-of-ne-zero (c .before .if1 .left)))
+    rw (c .if2 .left) at (seek-tracks (s .args .a .now) (s .args .b .now) (s .args .d) (s .pre) _ _ _ v (sym (rw e at (c .before .before .before .before .misfit-from .ensures)) ∙ c .before .before .enum-told .given .1) (pos-of-ne-zero (c .before .if1 .left)))
 
 enum-known-j : tie.Need-enum-known-j Inv-loop μ-loop
 enum-known-j c = search needs
@@ -64,7 +64,7 @@ add-s c =
     let s = k .before in
     let e = toZ-ofZ w32 (s .args .d) (s .fits .d) in
     let v = rw e at (k .loop .inv) in
-    let n = climb-next (s .args .a .now) (s .args .b .now) (s .args .d) (s .pre) _ _ _ v _ _ (sym (rw e at (c .before .before .before .misfit-from .ensures)) ∙ c .before .j .given .1) in
+    let n = seek-next (s .args .a .now) (s .args .b .now) (s .args .d) (s .pre) _ _ _ v _ _ (sym (rw e at (c .before .before .before .misfit-from .ensures)) ∙ c .before .j .given .1) in
     record { fits = omega (arith, n .0, s .pre .rows .few) }
 
 is-right-requires : tie.Need-is-right-requires Inv-loop μ-loop
@@ -76,7 +76,7 @@ loop-less c =
     let s = k .before in
     let e = toZ-ofZ w32 (s .args .d) (s .fits .d) in
     let v = rw e at (k .loop .inv) in
-    let n = climb-next (s .args .a .now) (s .args .b .now) (s .args .d) (s .pre) _ _ _ v _ _ (sym (rw e at (c .before .before .before .before .misfit-from .ensures)) ∙ c .before .before .j .given .1) in
+    let n = seek-next (s .args .a .now) (s .args .b .now) (s .args .d) (s .pre) _ _ _ v _ _ (sym (rw e at (c .before .before .before .before .misfit-from .ensures)) ∙ c .before .before .j .given .1) in
     omega (arith, n .0)
 
 loop-again : tie.Need-loop-again Inv-loop μ-loop
@@ -85,11 +85,11 @@ loop-again c =
     let s = k .before in
     let e = toZ-ofZ w32 (s .args .d) (s .fits .d) in
     let v = rw e at (k .loop .inv) in
-    let n = climb-next (s .args .a .now) (s .args .b .now) (s .args .d) (s .pre) _ _ _ v _ _ (sym (rw e at (c .before .before .before .before .misfit-from .ensures)) ∙ c .before .before .j .given .1) in
+    let n = seek-next (s .args .a .now) (s .args .b .now) (s .args .d) (s .pre) _ _ _ v _ _ (sym (rw e at (c .before .before .before .before .misfit-from .ensures)) ∙ c .before .before .j .given .1) in
     rw (e, c .is-right .ensures) (n .1)
 
-pub climb-spec : {M : Type 1} → statement M
-climb-spec =
+pub seek-least-spec : {M : Type 1} → statement M
+seek-least-spec =
     tie.close
     (tie.spec
     Inv-loop
