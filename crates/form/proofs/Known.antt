@@ -1,6 +1,6 @@
 -- With which numbers the calls refuse two rows: none above 11, and UNEQUAL only rows that are not equally long.
 use mathlib.Core.Path.{_≡_, refl}
-use mathlib.Core.Bool.{Bool, true, false}
+use mathlib.Core.Bool.{Bool, true, false, cond}
 use mathlib.Core.List.{List, [], _∷_}
 use Prim.Native.Nat.{ℕ, zero, suc, _+_, _-_, _≤_}
 use native.Mathlib.Omega.{arith}
@@ -20,7 +20,7 @@ use Rattle.jumper.specs.declared.rows.Checked.{Checked}
 use Rattle.jumper.specs.declared.rows.Checked.the-variants.{Accepted, Refused}
 use Rattle.fit.specs.Misfit.{misfitOf, noFit, fitOf}
 use Rattle.fit.specs.Least.{leastNumbers, leastOf, withWitness, leastAnswer}
-use Rattle.fit.specs.Offsets.{offsetsNumbers, pickOffsets, rangeFound, offsetsAnswer}
+use Rattle.fit.specs.Offsets.{offsetsNumbers, rangeFound, offsetsAnswer}
 use Rattle.fit.specs.declared.misfit.Misfit.{Misfit}
 use Rattle.fit.specs.declared.misfit.Misfit.the-variants.{None, At}
 use Rattle.fit.specs.declared.least.Least.{Least}
@@ -101,7 +101,7 @@ module _ (a b : List ℤ) where
   known-none Accepted q h k = k
   known-none (Refused r) q h k = h
 
-  known-pick : (t : Bool) (q r : Offsets) → Known a b (offsetsNumbers q .refusal) → Known a b (offsetsNumbers r .refusal) → Known a b (offsetsNumbers (pickOffsets t q r) .refusal)
+  known-pick : (t : Bool) (q r : Offsets) → Known a b (offsetsNumbers q .refusal) → Known a b (offsetsNumbers r .refusal) → Known a b (offsetsNumbers (cond t q r) .refusal)
   known-pick true q r h k = h
   known-pick false q r h k = k
 
