@@ -1,6 +1,6 @@
 -- The search for the least misfit: its steps as the code takes them, and what it says of the rule and of wirings.
 use mathlib.Core.Path.{_≡_, refl, sym, _∙_}
-use mathlib.Core.Bool.{Bool, true, false}
+use mathlib.Core.Bool.{Bool, true, false, cond}
 use mathlib.Core.List.{List}
 use mathlib.Core.Logic.{_⊎_, inl, inr, _↔_, ⊎-elim}
 use Prim.Native.Nat.{ℕ, zero, suc, _+_, _-_, _<_, _≤_}
@@ -25,7 +25,7 @@ use Rattle.jumper.specs.declared.refusal.Refusal.{Refusal}
 use Rattle.jumper.specs.declared.rows.Checked.the-variants.{Accepted, Refused}
 use Rattle.jumper.proofs.Accepted.{numbered, refused-not}
 use Rattle.jumper.proofs.Checks.{accepted-asked, asked-accepted, early-asked}
-use Rattle.fit.specs.Misfit.{tooRight, tooLeft, pickMisfit, misfitFrom, misfitOf, noFit, Witness, FitAnswer}
+use Rattle.fit.specs.Misfit.{tooRight, tooLeft, misfitFrom, misfitOf, noFit, Witness, FitAnswer}
 use Rattle.fit.specs.declared.misfit.Misfit.{Misfit}
 use Rattle.fit.specs.declared.misfit.Misfit.the-variants.{None, At}
 
@@ -71,7 +71,7 @@ unfolding misfitFrom
 found x y s d i zero = λ j l h. absurd (omega arith)
 found x y s d i (suc k) = go (tooRight x y s d i) (tooLeft x y s d i) refl refl (found x y s d (suc i) k)
   where
-    go : (t u : Bool) → tooRight x y s d i ≡ t → tooLeft x y s d i ≡ u → Found x y s d (suc i) k (misfitFrom x y s d (suc i) k) → Found x y s d i (suc k) (pickMisfit t (At i Right) (pickMisfit u (At i Left) (misfitFrom x y s d (suc i) k)))
+    go : (t u : Bool) → tooRight x y s d i ≡ t → tooLeft x y s d i ≡ u → Found x y s d (suc i) k (misfitFrom x y s d (suc i) k) → Found x y s d i (suc k) (cond t (At i Right) (cond u (At i Left) (misfitFrom x y s d (suc i) k)))
     go true u e f g = (true-lt (highEnd x y s i) d e, omega arith, omega arith, λ j l h. absurd (omega arith))
     go false true e f g = (true-lt d (lowEnd x y s i) f, omega arith, omega arith, λ j l h. absurd (omega arith))
     go false false e f g = later x y s d i k (misfitFrom x y s d (suc i) k) (record { low = false-lt d (lowEnd x y s i) f; high = false-lt (highEnd x y s i) d e }) g

@@ -1,5 +1,5 @@
 -- The witness of a misfit and the answer of `fit` (01, "Rules of fit", refusals 1 to 7 and 10).
-use mathlib.Core.Bool.{Bool, true, false}
+use mathlib.Core.Bool.{Bool, true, false, cond}
 use mathlib.Core.Path.{_≡_}
 use mathlib.Core.List.{List}
 use mathlib.Core.Logic.{_⊎_, _↔_}
@@ -30,14 +30,10 @@ abbrev pub isRight : Side → Bool
 isRight Right = true
 isRight Left = false
 
-abbrev pub pickMisfit : Bool → Misfit → Misfit → Misfit
-pickMisfit true m k = m
-pickMisfit false m k = k
-
 -- "the least i that breaks the rule at s", among the k pairs from i on
 unfoldable pub misfitFrom : (x y : ℕ → ℤ) (s : ℕ) (d : ℤ) (i k : ℕ) → Misfit
 misfitFrom x y s d i zero = None
-misfitFrom x y s d i (suc k) = pickMisfit (tooRight x y s d i) (At i Right) (pickMisfit (tooLeft x y s d i) (At i Left) (misfitFrom x y s d (suc i) k))
+misfitFrom x y s d i (suc k) = cond (tooRight x y s d i) (At i Right) (cond (tooLeft x y s d i) (At i Left) (misfitFrom x y s d (suc i) k))
 
 abbrev pub misfitOf : (a b : List ℤ) (s : ℕ) (d : ℤ) → Misfit
 misfitOf a b s d = misfitFrom (leanOf a) (leanOf b) s d 0 (length a - s)

@@ -1,5 +1,5 @@
 -- The offset range at a separation (01, "Rules of fit"; refusals 1 to 6, then 11).
-use mathlib.Core.Bool.{Bool, true, false}
+use mathlib.Core.Bool.{cond}
 use mathlib.Core.Path.{_≡_}
 use mathlib.Core.List.{List}
 use mathlib.Core.Logic.{_↔_}
@@ -36,15 +36,11 @@ highGap a b s i = pad a (i + s) -ℤ pad b i
 abbrev pub gapsOf : (a b : List ℤ) (s : ℕ) → OffsetRange
 gapsOf a b s = record { low = largest (lowGap a b s) (length a - s - 1); high = smallest (highGap a b s) (length a - s - 1) }
 
-abbrev pub pickOffsets : Bool → Offsets → Offsets → Offsets
-pickOffsets true q r = q
-pickOffsets false q r = r
-
 -- "For s >= n the range given is that of the accepted offsets."
 abbrev pub rangeFound : (n : ℕ) (x y : ℕ → ℤ) (s : ℕ) → Offsets
 rangeFound n x y s =
-    pickOffsets (ltb s n)
-    (pickOffsets (isEmpty (rangeOf n x y s)) (NoRange (NoOffset (lowestAt n x y s) (highestAt n x y s))) (Range (rangeOf n x y s)))
+    cond (ltb s n)
+    (cond (isEmpty (rangeOf n x y s)) (NoRange (NoOffset (lowestAt n x y s) (highestAt n x y s))) (Range (rangeOf n x y s)))
     (Range wholeRange)
 
 abbrev pub offsetsAnswer : (a b : List ℤ) (s : ℕ) → Offsets

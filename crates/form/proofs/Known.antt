@@ -1,6 +1,6 @@
 -- With which numbers the calls refuse two rows: none above 11, and UNEQUAL only rows that are not equally long.
 use mathlib.Core.Path.{_≡_, refl}
-use mathlib.Core.Bool.{Bool, true, false}
+use mathlib.Core.Bool.{Bool, true, false, cond}
 use mathlib.Core.List.{List, [], _∷_}
 use Prim.Native.Nat.{ℕ, zero, suc, _+_, _-_, _≤_}
 use native.Mathlib.Omega.{arith}
@@ -22,7 +22,7 @@ use Rattle.jumper.specs.declared.rows.Checked.{Checked}
 use Rattle.jumper.specs.declared.rows.Checked.the-variants.{Accepted, Refused}
 use Rattle.fit.specs.Misfit.{misfitOf, noFit, fitOf}
 use Rattle.fit.specs.Least.{leastNumbers, leastOf, withWitness, leastAnswer}
-use Rattle.fit.specs.Offsets.{offsetsNumbers, pickOffsets, rangeFound, offsetsAnswer}
+use Rattle.fit.specs.Offsets.{offsetsNumbers, rangeFound, offsetsAnswer}
 use Rattle.fit.specs.declared.misfit.Misfit.{Misfit}
 use Rattle.fit.specs.declared.misfit.Misfit.the-variants.{None, At}
 use Rattle.fit.specs.declared.least.Least.the-variants.{Refused as NoLeast}
@@ -100,7 +100,7 @@ module _ (a b : List ℤ) where
       let s = leastOf (leanOf a) (leanOf b) d (length a) in
       known-unless (λ l. leastNumbers l .refusal) NoLeast (λ r. refl) (checkOffset a b d) (withWitness s (misfitOf a b (s - 1) d)) (told-or (checkRows a b) (offsetFault d) told-rows (told-offset d)) (known-shown s (misfitOf a b (s - 1) d))
 
-  known-pick : (t : Bool) (q r : Offsets) → Known a b (offsetsNumbers q .refusal) → Known a b (offsetsNumbers r .refusal) → Known a b (offsetsNumbers (pickOffsets t q r) .refusal)
+  known-pick : (t : Bool) (q r : Offsets) → Known a b (offsetsNumbers q .refusal) → Known a b (offsetsNumbers r .refusal) → Known a b (offsetsNumbers (cond t q r) .refusal)
   known-pick true q r h k = h
   known-pick false q r h k = k
 

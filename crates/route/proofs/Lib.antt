@@ -1,5 +1,5 @@
--- What the floors above cite: Places says where the columns of a route stand, Legal that no fault is legality, Faults what the search finds, and Answers
--- what the calls promise, with the laws that join them. Wires and Quick are the way there.
+-- What the floors above cite: Places says where the columns of a route stand, Legal that no fault is legality, Faults what the search finds, Reading that
+-- no more of a table is read than its wires' places, and Answers what the calls promise, with the laws that join them. Wires and Quick are the way there.
 pub mod Places
 mod Wires
 pub mod Faults
