@@ -14,7 +14,7 @@ use crate::state::busy;
 use crate::state::held;
 use crate::state::refuse;
 use crate::state::skip;
-use crate::step::on_line;
+use crate::step::on_text;
 use jumper::refusal::Refusal;
 
 // A state, how much of the piece was taken in, and the place after what was written.
@@ -45,22 +45,75 @@ fn store(line: &mut [u8], at: usize, b: u8) -> usize
     at
 }
 
-// The bytes of a piece from place `from` on, up to a line feed or the piece's end.
-fn keep(line: &mut [u8], at: usize, piece: &[u8], from: usize) -> Keeping
-    requires { ⌜ (length (now line) ≡ 160) × (from ≤ length (now piece)) ⌝ }
-    ensures { λ r. ⌜ Kept (now (line .entry)) at (now (piece .entry)) from (r .at) (r .i) (now (line .exit)) ⌝ }
-{
+fn keep(line: &mut [u8], at: usize, bytes: &[u8]) -> usize {
     let mut n = at;
-    let mut i = from;
-    while i < piece.len() {
-        let b = piece[i];
-        if b == 10 {
-            return Keeping { at: n, i };
-        }
-        n = store(line, n, b);
+    let mut i: usize = 0;
+    while i < bytes.len() {
+        n = store(line, n, bytes[i]);
         i += 1;
     }
-    Keeping { at: n, i }
+    n
+}
+
+fn spot(b: u8, i: u8) -> u8 {
+    if b == 10 { i } else { 64 }
+}
+
+fn nearer(x: u8, y: u8) -> u8 {
+    if x < y { x } else { y }
+}
+
+fn first_feed(chunk: &[u8]) -> u8 {
+    let mut at: u8 = 64;
+    let mut i: u8 = 0;
+    while i < 64 {
+        at = nearer(at, spot(chunk[i as usize], i));
+        i += 1;
+    }
+    at
+}
+
+fn line_end(piece: &[u8], from: usize) -> usize {
+    let mut i = from;
+    while 64 <= piece.len() - i {
+        let k = first_feed(&piece[i..i + 64]);
+        if k < 64 {
+            return i + k as usize;
+        }
+        i += 64;
+    }
+    feed_from(piece, i)
+}
+
+fn feed_from(piece: &[u8], from: usize) -> usize {
+    let mut i = from;
+    while i < piece.len() {
+        if piece[i] == 10 {
+            return i;
+        }
+        i += 1;
+    }
+    i
+}
+
+fn text_of<'x>(line: &'x [u8], at: usize, piece: &'x [u8], i: usize, j: usize) -> &'x [u8] {
+    if at == 0 {
+        return &piece[i..j];
+    }
+    if at <= line.len() {
+        return &line[..at];
+    }
+    line
+}
+
+// A line that is whole in the piece stays there.
+fn keep_part(line: &mut [u8], at: usize, piece: &[u8], i: usize, j: usize) -> usize {
+    if at == 0 {
+        if j < piece.len() {
+            return 0;
+        }
+    }
+    keep(line, at, &piece[i..j])
 }
 
 // Takes a piece in until something is to be written, or the piece ends.
@@ -74,14 +127,13 @@ fn take_in(line: &mut [u8], a: &mut [i32], b: &mut [i32], s: State, piece: &[u8]
         if busy(st) {
             return Taking { s: st, used: i };
         }
-        let k = keep(line, st.at, piece, i);
-        st.at = k.at;
-        i = k.i;
-        if piece.len() <= i {
-            return Taking { s: st, used: i };
+        let j = line_end(piece, i);
+        st.at = keep_part(line, st.at, piece, i, j);
+        if piece.len() <= j {
+            return Taking { s: st, used: j };
         }
-        st = on_line(line, a, b, st);
-        i += 1;
+        st = on_text(text_of(line, st.at, piece, i, j), a, b, st);
+        i = j + 1;
     }
     Taking { s: st, used: i }
 }

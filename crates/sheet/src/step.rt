@@ -18,7 +18,6 @@ use crate::state::refuse;
 use crate::state::skip;
 use frame::read::Order;
 use frame::read::Said;
-use frame::read::columns;
 use frame::read::read_text;
 use jumper::refusal::Refusal;
 
@@ -49,7 +48,15 @@ fn on_skipping(s: State, said: Said) -> State
     }
 }
 
-fn on_bottom(text: &[u8], a: &mut [i32], s: State, line: u8, k: usize) -> State
+fn put(cols: &[i32; 16], k: usize, row: &mut [i32], to: usize) {
+    let mut j: usize = 0;
+    while j < k {
+        row[to + j] = cols[j];
+        j += 1;
+    }
+}
+
+fn on_bottom(cols: &[i32; 16], a: &mut [i32], s: State, line: u8, k: usize) -> State
     requires { ⌜ isHeld s ≡ true ⌝ }
     ensures { λ r. ⌜ BottomPut s (now (text .entry)) (now (a .entry)) line k r (now (a .exit)) ⌝ }
 {
@@ -59,7 +66,7 @@ fn on_bottom(text: &[u8], a: &mut [i32], s: State, line: u8, k: usize) -> State
     let top = s.top;
     if line == order.line {
         if k <= order.pairs - bottom {
-            columns(text, k, a, bottom);
+            put(cols, k, a, bottom);
             return quiet(Phase::Inside, order, bottom + k, top, seen);
         }
         return refuse(order.line, Refusal::Sequence, seen);
@@ -67,7 +74,7 @@ fn on_bottom(text: &[u8], a: &mut [i32], s: State, line: u8, k: usize) -> State
     refuse(order.line, Refusal::Sequence, seen)
 }
 
-fn on_top(text: &[u8], a: &[i32], b: &mut [i32], s: State, line: u8, k: usize) -> State
+fn on_top(cols: &[i32; 16], a: &[i32], b: &mut [i32], s: State, line: u8, k: usize) -> State
     requires { ⌜ (isHeld s ≡ true) × (length (now a) ≡ 2048) × (length (now b) ≡ 2048) ⌝ }
     ensures { λ r. ⌜ TopPut s (now (text .entry)) (now (a .entry)) (now (b .entry)) line k r (now (b .exit)) ⌝ }
 {
@@ -78,7 +85,7 @@ fn on_top(text: &[u8], a: &[i32], b: &mut [i32], s: State, line: u8, k: usize) -
     if line == order.line {
         if bottom == order.pairs {
             if k <= order.pairs - top {
-                columns(text, k, b, top);
+                put(cols, k, b, top);
                 if top + k == order.pairs {
                     return done(
                         s,
@@ -94,33 +101,35 @@ fn on_top(text: &[u8], a: &[i32], b: &mut [i32], s: State, line: u8, k: usize) -
     refuse(order.line, Refusal::Sequence, seen)
 }
 
-fn on_inside(text: &[u8], a: &mut [i32], b: &mut [i32], s: State) -> State
+fn on_inside(said: Said, cols: &[i32; 16], a: &mut [i32], b: &mut [i32], s: State) -> State
     requires { ⌜ (isHeld s ≡ true) × (s .phase ≡ Phase.Inside) × (length (now a) ≡ 2048) × (length (now b) ≡ 2048) ⌝ }
     ensures { λ r. ⌜ Reacted s (now (a .entry)) (now (b .entry)) (textFrame (now (text .entry))) r (now (a .exit)) (now (b .exit)) ⌝ }
 {
     let line = s.order.line;
     let seen = s.seen;
-    match read_text(text) {
+    match said {
         Said::Bad => refuse(line, Refusal::Frame, seen),
         Said::Header(o) => cut_off(line, head(s, o)),
-        Said::Bottom(l, k) => on_bottom(text, a, s, l, k),
-        Said::Top(l, k) => on_top(text, a, b, s, l, k),
+        Said::Bottom(l, k) => on_bottom(cols, a, s, l, k),
+        Said::Top(l, k) => on_top(cols, a, b, s, l, k),
     }
 }
 
-fn on_text(text: &[u8], a: &mut [i32], b: &mut [i32], s: State) -> State
+pub(crate) fn on_text(text: &[u8], a: &mut [i32], b: &mut [i32], s: State) -> State
     requires { ⌜ (length (now a) ≡ 2048) × (length (now b) ≡ 2048) ⌝ }
     ensures { λ r. ⌜ Reacted s (now (a .entry)) (now (b .entry)) (textFrame (now (text .entry))) r (now (a .exit)) (now (b .exit)) ⌝ }
 {
+    let mut cols = [0i32; 16];
+    let said = read_text(text, &mut cols);
     let phase = s.phase;
     match phase {
-        Phase::Ready => on_ready(s, read_text(text)),
-        Phase::Skipping => on_skipping(s, read_text(text)),
+        Phase::Ready => on_ready(s, said),
+        Phase::Skipping => on_skipping(s, said),
         Phase::Inside => {
             if held(s) {
-                return on_inside(text, a, b, s);
+                return on_inside(said, &cols, a, b, s);
             }
-            on_skipping(s, read_text(text))
+            on_skipping(s, said)
         }
     }
 }
