@@ -33,6 +33,23 @@ take-puts {A} l at (v ∷ vs) h =
 one : (s : List ℕ) (i : ℕ) → i < length s → drop i s ≡ getD s i 0 ∷ drop (i + 1) s
 one s i h = drop-cons s i 0 h ∙ ap (λ (n : ℕ). getD s i 0 ∷ drop n s) (sym (add-one i))
 
+-- a run stored one by one: place to + j has element j
+module _ {A : Type 0} (vs : List A) (to : ℕ) (d : A) where
+  pub puts-start : (l : List A) → puts l to vs ≡ puts l (to + 0) (drop 0 vs)
+  puts-start l = let e : to + 0 ≡ to = omega arith in rw e
+
+  pub puts-more : (l : List A) (j : ℕ) (v : A) → j < length vs → v ≡ getD vs j d → puts l (to + j) (drop j vs) ≡ puts (set l (to + j) v) (to + (j + 1)) (drop (j + 1) vs)
+  unfolding puts
+  puts-more l j v h e =
+      let p : to + j + 1 ≡ to + (j + 1) = omega arith in
+      ap (puts l (to + j)) (drop-cons vs j d h ∙ ap (λ (n : ℕ). getD vs j d ∷ drop n vs) (sym (add-one j)))
+      ∙ ap (λ (x : A). puts (set l (to + j) x) (to + j + 1) (drop (j + 1) vs)) (sym e)
+      ∙ ap (λ (n : ℕ). puts (set l (to + j) v) n (drop (j + 1) vs)) p
+
+  pub puts-end : (l : List A) (j : ℕ) → length vs ≤ j → puts l (to + j) (drop j vs) ≡ l
+  unfolding puts
+  puts-end l j h = ap (puts l (to + j)) (drop-of-length-le vs h)
+
 -- ---- a frame's line
 
 -- the digits of the bytes from i on, of the sum's byte w, and the line feed

@@ -6,8 +6,9 @@ ghost use Prim.Native.Nat.{_≤_};
 ghost use lib.ListN.{length};
 ghost use lib.IntN.{ℤ};
 ghost use Rattle.sheet.specs.Owes.{Fed, Finished};
-ghost use Rattle.sheet.specs.Parts.{StoredIn, Kept, TakenIn};
+ghost use Rattle.sheet.specs.Parts.{StoredIn, Kept, LineFound, TakenIn, textIn};
 use crate::give::give_all;
+use crate::line_end::line_end;
 use crate::state::Phase;
 use crate::state::State;
 use crate::state::busy;
@@ -45,7 +46,11 @@ fn store(line: &mut [u8], at: usize, b: u8) -> usize
     at
 }
 
-fn keep(line: &mut [u8], at: usize, bytes: &[u8]) -> usize {
+// Bytes of a line, none of them a line feed, after those that are kept already.
+fn keep(line: &mut [u8], at: usize, bytes: &[u8]) -> usize
+    requires { ⌜ length (now line) ≡ 160 ⌝ }
+    ensures { λ r. ⌜ Kept (now (line .entry)) at (now (bytes .entry)) r (now (line .exit)) ⌝ }
+{
     let mut n = at;
     let mut i: usize = 0;
     while i < bytes.len() {
@@ -55,65 +60,33 @@ fn keep(line: &mut [u8], at: usize, bytes: &[u8]) -> usize {
     n
 }
 
-fn spot(b: u8, i: u8) -> u8 {
-    if b == 10 { i } else { 64 }
-}
-
-fn nearer(x: u8, y: u8) -> u8 {
-    if x < y { x } else { y }
-}
-
-fn first_feed(chunk: &[u8]) -> u8 {
-    let mut at: u8 = 64;
-    let mut i: u8 = 0;
-    while i < 64 {
-        at = nearer(at, spot(chunk[i as usize], i));
-        i += 1;
-    }
-    at
-}
-
-fn line_end(piece: &[u8], from: usize) -> usize {
-    let mut i = from;
-    while 64 <= piece.len() - i {
-        let k = first_feed(&piece[i..i + 64]);
-        if k < 64 {
-            return i + k as usize;
-        }
-        i += 64;
-    }
-    feed_from(piece, i)
-}
-
-fn feed_from(piece: &[u8], from: usize) -> usize {
-    let mut i = from;
-    while i < piece.len() {
-        if piece[i] == 10 {
-            return i;
-        }
-        i += 1;
-    }
-    i
-}
-
-fn text_of<'x>(line: &'x [u8], at: usize, piece: &'x [u8], i: usize, j: usize) -> &'x [u8] {
+// Goes on from place `from` of a piece to the end of the current line, or to the piece's end. A line that stands in the piece as a whole isn't copied.
+fn find_line(line: &mut [u8], at: usize, piece: &[u8], from: usize) -> Keeping
+    requires { ⌜ (length (now line) ≡ 160) × (from ≤ length (now piece)) ⌝ }
+    ensures { λ r. ⌜ LineFound (now (line .entry)) at (now (piece .entry)) from (r .at) (r .i) (now (line .exit)) ⌝ }
+{
+    let i = line_end(piece, from);
     if at == 0 {
-        return &piece[i..j];
+        if i < piece.len() {
+            return Keeping { at: 0, i };
+        }
+    }
+    let n = keep(line, at, &piece[from..i]);
+    Keeping { at: n, i }
+}
+
+// The text of a line that ends at place `to` of a piece.
+fn text_of<'x>(line: &'x [u8], at: usize, piece: &'x [u8], from: usize, to: usize) -> &'x [u8]
+    requires { ⌜ (from ≤ to) × (to ≤ length (now piece)) ⌝ }
+    ensures { λ r. ⌜ now r ≡ textIn at (now (line .entry)) (now (piece .entry)) from to ⌝ }
+{
+    if at == 0 {
+        return &piece[from..to];
     }
     if at <= line.len() {
         return &line[..at];
     }
     line
-}
-
-// A line that is whole in the piece stays there.
-fn keep_part(line: &mut [u8], at: usize, piece: &[u8], i: usize, j: usize) -> usize {
-    if at == 0 {
-        if j < piece.len() {
-            return 0;
-        }
-    }
-    keep(line, at, &piece[i..j])
 }
 
 // Takes a piece in until something is to be written, or the piece ends.
@@ -127,13 +100,13 @@ fn take_in(line: &mut [u8], a: &mut [i32], b: &mut [i32], s: State, piece: &[u8]
         if busy(st) {
             return Taking { s: st, used: i };
         }
-        let j = line_end(piece, i);
-        st.at = keep_part(line, st.at, piece, i, j);
-        if piece.len() <= j {
-            return Taking { s: st, used: j };
+        let k = find_line(line, st.at, piece, i);
+        st.at = k.at;
+        if piece.len() <= k.i {
+            return Taking { s: st, used: k.i };
         }
-        st = on_text(text_of(line, st.at, piece, i, j), a, b, st);
-        i = j + 1;
+        st = on_text(text_of(line, k.at, piece, i, k.i), a, b, st);
+        i = k.i + 1;
     }
     Taking { s: st, used: i }
 }

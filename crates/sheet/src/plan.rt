@@ -6,16 +6,10 @@ use form::plan::plan;
 use form::wish::wish_of;
 use jumper::refusal::Numbers;
 
-// Exported
-#[no_mangle]
-pub extern "C" fn obrastyn_wish(a: &[i32], b: &[i32], separation: u32, offset: i32) -> Numbers {
-    plan(wish_of(separation, offset), a, b)
-}
-
 // Of the first n columns of both rows.
 pub(crate) fn plan_first(a: &[i32], b: &[i32], n: usize, separation: u32, offset: i32) -> Numbers
     requires { ⌜ (n ≤ length (now a)) × (n ≤ length (now b)) ⌝ }
     ensures { λ r. ⌜ PlanTold separation offset (take n (now (a .entry))) (take n (now (b .entry))) r ⌝ }
 {
-    obrastyn_wish(&a[..n], &b[..n], separation, offset)
+    plan(wish_of(separation, offset), &a[..n], &b[..n])
 }
