@@ -15,7 +15,7 @@ use mir.Val.{ofZ}
 use Rattle.frame.specs.Written.{answerLine, moveLine}
 use Rattle.frame.specs.declared.write.Answer.{Answer}
 use Rattle.frame.specs.declared.write.Move.{Move}
-use Rattle.frame.specs.Puts.{puts, byteText, LinePut, ColumnsPut}
+use Rattle.frame.specs.Puts.{puts, byteText, LinePut}
 
 -- what was stored stands after what stood before it
 pub take-puts : {A : Type 0} (l : List A) (at : ℕ) (vs : List A) → at + length vs ≤ length l → take (at + length vs) (puts l at vs) ≡ take at l ++ vs
@@ -32,6 +32,23 @@ take-puts {A} l at (v ∷ vs) h =
 
 one : (s : List ℕ) (i : ℕ) → i < length s → drop i s ≡ getD s i 0 ∷ drop (i + 1) s
 one s i h = drop-cons s i 0 h ∙ ap (λ (n : ℕ). getD s i 0 ∷ drop n s) (sym (add-one i))
+
+-- a run stored one by one: place to + j has element j
+module _ {A : Type 0} (vs : List A) (to : ℕ) (d : A) where
+  pub puts-start : (l : List A) → puts l to vs ≡ puts l (to + 0) (drop 0 vs)
+  puts-start l = let e : to + 0 ≡ to = omega arith in rw e
+
+  pub puts-more : (l : List A) (j : ℕ) (v : A) → j < length vs → v ≡ getD vs j d → puts l (to + j) (drop j vs) ≡ puts (set l (to + j) v) (to + (j + 1)) (drop (j + 1) vs)
+  unfolding puts
+  puts-more l j v h e =
+      let p : to + j + 1 ≡ to + (j + 1) = omega arith in
+      ap (puts l (to + j)) (drop-cons vs j d h ∙ ap (λ (n : ℕ). getD vs j d ∷ drop n vs) (sym (add-one j)))
+      ∙ ap (λ (x : A). puts (set l (to + j) x) (to + j + 1) (drop (j + 1) vs)) (sym e)
+      ∙ ap (λ (n : ℕ). puts (set l (to + j) v) n (drop (j + 1) vs)) p
+
+  pub puts-end : (l : List A) (j : ℕ) → length vs ≤ j → puts l (to + j) (drop j vs) ≡ l
+  unfolding puts
+  puts-end l j h = ap (puts l (to + j)) (drop-of-length-le vs h)
 
 -- ---- a frame's line
 
@@ -96,27 +113,22 @@ line-not-put line out at n e h = record { room = λ k. absurd (omega arith); ful
 
 -- ---- columns
 
-pub column-more : (row : List ℤ) (bs : List ℕ) (to j k : ℕ) (c : ℤ) → j < k → c ≡ four bs (4 * j + 3)
-    → puts row (to + j) (fours bs (4 * j + 3) (k - j)) ≡ puts (set row (to + j) c) (to + (j + 1)) (fours bs (4 * (j + 1) + 3) (k - (j + 1)))
+pub column-start : (row : List ℤ) (bs : List ℕ) (k : ℕ) → puts row 0 (fours bs 3 k) ≡ puts row 0 (fours bs (4 * 0 + 3) (k - 0))
+column-start row bs k = let m : k - 0 ≡ k = omega arith in rw m
+
+pub column-more : (row : List ℤ) (bs : List ℕ) (j k : ℕ) (c : ℤ) → j < k → c ≡ four bs (4 * j + 3)
+    → puts row j (fours bs (4 * j + 3) (k - j)) ≡ puts (set row j c) (j + 1) (fours bs (4 * (j + 1) + 3) (k - (j + 1)))
 unfolding puts fours
-column-more row bs to j k c h e =
+column-more row bs j k c h e =
     let m : k - j ≡ suc (k - (j + 1)) = omega arith in
-    let p : to + j + 1 ≡ to + (j + 1) = omega arith in
     let q : 4 * j + 3 + 4 ≡ 4 * (j + 1) + 3 = omega arith in
-    ap (λ (n : ℕ). puts row (to + j) (fours bs (4 * j + 3) n)) m
-    ∙ ap (λ (x : ℤ). puts (set row (to + j) x) (to + j + 1) (fours bs (4 * j + 3 + 4) (k - (j + 1)))) (sym e)
-    ∙ ap (λ (n : ℕ). puts (set row (to + j) c) (to + j + 1) (fours bs n (k - (j + 1)))) q
-    ∙ ap (λ (n : ℕ). puts (set row (to + j) c) n (fours bs (4 * (j + 1) + 3) (k - (j + 1)))) p
+    ap (λ (n : ℕ). puts row j (fours bs (4 * j + 3) n)) m
+    ∙ ap (λ (x : ℤ). puts (set row j x) (j + 1) (fours bs (4 * j + 3 + 4) (k - (j + 1)))) (sym e)
+    ∙ ap (λ (n : ℕ). puts (set row j c) (j + 1) (fours bs n (k - (j + 1)))) q
 
-pub column-none : (row : List ℤ) (bs : List ℕ) (to j k : ℕ) → k ≤ j → puts row (to + j) (fours bs (4 * j + 3) (k - j)) ≡ row
+pub column-none : (row : List ℤ) (bs : List ℕ) (j k : ℕ) → k ≤ j → puts row j (fours bs (4 * j + 3) (k - j)) ≡ row
 unfolding puts fours
-column-none row bs to j k h = let m : k - j ≡ 0 = omega arith in ap (λ (n : ℕ). puts row (to + j) (fours bs (4 * j + 3) n)) m
-
-pub column-start : (row : List ℤ) (bs : List ℕ) (to k : ℕ) → puts row to (fours bs 3 k) ≡ puts row (to + 0) (fours bs (4 * 0 + 3) (k - 0))
-column-start row bs to k =
-    let m : k - 0 ≡ k = omega arith in
-    let p : to + 0 ≡ to = omega arith in
-    sym (ap (λ (n : ℕ). puts row n (fours bs 3 (k - 0))) p ∙ ap (λ (n : ℕ). puts row to (fours bs 3 n)) m)
+column-none row bs j k h = let m : k - j ≡ 0 = omega arith in ap (λ (n : ℕ). puts row j (fours bs (4 * j + 3) n)) m
 
 pub fours-length : (bs : List ℕ) (i k : ℕ) → length (fours bs i k) ≡ k
 unfolding fours

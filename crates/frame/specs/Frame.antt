@@ -70,9 +70,15 @@ isFed line = cond (ltb 0 (length line)) (eqb (one line (length line - 1)) 10) fa
 unfoldable pub frameOf : List ℕ → Frame
 frameOf line = cond (isFed line) (textFrame (take (length line - 1) line)) bad
 
--- what reading hands back: the columns stay in the line, and only their count comes
+-- what reading a line hands back: of columns their count; they themselves go into lent memory
 abbrev pub saidOf : Frame → Said
 saidOf bad = Bad
 saidOf (header o) = Header o
 saidOf (bottom l cs) = Bottom l (length cs)
 saidOf (top l cs) = Top l (length cs)
+
+abbrev pub columnsOf : Frame → List ℤ
+columnsOf bad = []
+columnsOf (header o) = []
+columnsOf (bottom l cs) = cs
+columnsOf (top l cs) = cs

@@ -3,9 +3,9 @@
 use mathlib.Core.Bool.{Bool, true, false, cond}
 use mathlib.Core.Path.{_≡_}
 use mathlib.Core.List.{List, [], _∷_, _++_}
-use Prim.Native.Nat.{ℕ, _+_, _*_, _-_, _/_, _%_, _≤_, _<_}
+use Prim.Native.Nat.{ℕ, zero, suc, _+_, _*_, _-_, _/_, _%_, _≤_, _<_}
 use lib.Dec.{eqb, ltb}
-use lib.ListN.{length}
+use lib.ListN.{length, getD, take}
 
 -- a capital digit: 0 to 9 are the bytes 48 to 57, A to F the bytes 65 to 70
 unfoldable pub isDigit : ℕ → Bool
@@ -49,13 +49,33 @@ isSound text = cond (eqb (length text % 2) 0) (cond (allDigits text) (eqb (total
 unfoldable pub lineOf : List ℕ → List ℕ
 lineOf bs = textOf (bs ++ (lastByte bs ∷ [])) ++ (10 ∷ [])
 
+-- ---- what the parts of the code promise each other
+
 -- what reading one digit hands back: its worth, 16 for a byte that is none
 pub record DigitRead (c r : ℕ) : Type 0 where
   pub small : r ≤ 16
   pub digit : r < 16 → (isDigit c ≡ true) × (valueOf c ≡ r)
   pub other : 16 ≤ r → isDigit c ≡ false
 
--- a number that is known, and below a bound
-pub record Is (x bound r : ℕ) : Type 0 where
-  pub is : r ≡ x
-  pub small : r < bound
+-- the worths of a text's digits, each at its place; 16 comes back if one of its bytes is no digit
+pub record WorthsRead (text : List ℕ) (r : ℕ) (worths : List ℕ) : Type 0 where
+  pub digits : r < 16 → allDigits text ≡ true
+  pub worth : r < 16 → (i : ℕ) → i < length text → getD worths i 0 ≡ valueOf (getD text i 0)
+  pub other : 16 ≤ r → allDigits text ≡ false
+
+-- n bytes from the worths of their digits
+abbrev pub byteAt : List ℕ → ℕ → ℕ
+byteAt worths i = 16 * getD worths (2 * i) 0 + getD worths (2 * i + 1) 0
+
+unfoldable pub bytesFrom : List ℕ → ℕ → ℕ → List ℕ
+bytesFrom worths i zero = []
+bytesFrom worths i (suc n) = byteAt worths i ∷ bytesFrom worths (i + 1) n
+
+pub record BytesLaid (worths : List ℕ) (n r : ℕ) (bytes : List ℕ) : Type 0 where
+  pub laid : take n bytes ≡ bytesFrom worths 0 n
+  pub sum : r ≡ total (bytesFrom worths 0 n) % 256
+
+-- what decoding a text hands back: whether it is sound; and its bytes, if it is
+pub record Decoded (text : List ℕ) (r : Bool) (bytes : List ℕ) : Type 0 where
+  pub sound : r ≡ isSound text
+  pub laid : r ≡ true → take (length text / 2) bytes ≡ bytesOf text

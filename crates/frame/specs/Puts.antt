@@ -1,11 +1,13 @@
 -- What the calls do to lent memory, at every input.
+use mathlib.Core.Bool.{Bool, true, false}
 use mathlib.Core.Path.{_≡_}
 use mathlib.Core.List.{List, [], _∷_}
 use Prim.Native.Nat.{ℕ, _+_, _*_, _<_, _≤_}
 use lib.ListN.{length, set}
 use lib.IntN.{ℤ}
-use Rattle.frame.specs.Hex.{bytesOf, textOf}
-use Rattle.frame.specs.Frame.{fours}
+use Rattle.frame.specs.Hex.{textOf, bytesOf, isSound}
+use Rattle.frame.specs.Frame.{Frame, one, fours, saidOf, columnsOf}
+use Rattle.frame.specs.declared.read.Said.{Said}
 
 -- a list with others stored over it from place i on
 unfoldable pub puts : {A : Type 0} → List A → ℕ → List A → List A
@@ -21,8 +23,12 @@ pub record LinePut (line out : List ℕ) (at to : ℕ) (out' : List ℕ) : Type 
   pub room : at + length line ≤ length out → (to ≡ at + length line) × (out' ≡ puts out at line)
   pub full : length out < at + length line → (to ≡ at) × (out' ≡ out)
 
--- the first k columns of a text of columns, stored from place `to` on if text and row reach so far; else nothing is changed
-pub record ColumnsPut (text : List ℕ) (k : ℕ) (row : List ℤ) (to : ℕ) (row' : List ℤ) : Type 0 where
-  pub room : 8 * k + 6 ≤ length text → to + k ≤ length row → row' ≡ puts row to (fours (bytesOf text) 3 k)
-  pub short : length text < 8 * k + 6 → row' ≡ row
-  pub full : length row < to + k → row' ≡ row
+-- the columns of a text that has the length for k of them, if it is sound and says k; else nothing is changed
+pub record Filled (text : List ℕ) (k : ℕ) (columns : List ℤ) (good : Bool) (line : ℕ) (columns' : List ℤ) : Type 0 where
+  pub is : good ≡ true → (isSound text ≡ true) × (one (bytesOf text) 2 ≡ k) × (line ≡ one (bytesOf text) 1) × (columns' ≡ puts columns 0 (fours (bytesOf text) 3 k))
+  pub not : good ≡ false → (columns' ≡ columns) × (isSound text ≡ true → one (bytesOf text) 2 ≡ k → ⊥)
+
+-- a line that is frame f was read: what it says, and its columns from the first place on
+pub record ReadIn (f : Frame) (columns : List ℤ) (r : Said) (columns' : List ℤ) : Type 0 where
+  pub said : r ≡ saidOf f
+  pub carried : columns' ≡ puts columns 0 (columnsOf f)

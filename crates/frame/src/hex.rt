@@ -1,8 +1,9 @@
 // Capital hexadecimal digits, and a text of them.
 ghost use mathlib.Core.Path.{_≡_};
-ghost use Prim.Native.Nat.{_+_, _*_, _<_};
+ghost use mathlib.Core.Logic.{_⊎_};
+ghost use Prim.Native.Nat.{ℕ, _+_, _*_, _/_, _%_, _≤_, _<_};
 ghost use lib.ListN.{length, getD};
-ghost use Rattle.frame.specs.Hex.{Is, DigitRead, valueOf, digitOf, bytesOf, isSound};
+ghost use Rattle.frame.specs.Hex.{DigitRead, WorthsRead, BytesLaid, Decoded, digitOf};
 use std::num;
 
 // The worth of a digit, 16 for a byte that is none.
@@ -24,13 +25,6 @@ fn digit(c: u8) -> u8
     16
 }
 
-fn value(c: u8) -> u8
-    ensures { λ r. ⌜ Is (valueOf c) 16 r ⌝ }
-{
-    let d = digit(c);
-    if d < 16 { d } else { 0 }
-}
-
 pub(crate) fn hex_digit(d: u8) -> u8
     requires { ⌜ d < 16 ⌝ }
     ensures { λ r. ⌜ r ≡ digitOf d ⌝ }
@@ -41,38 +35,53 @@ pub(crate) fn hex_digit(d: u8) -> u8
     55 + d
 }
 
-// Whether a text is whole bytes in capital digits whose sum, carried round at 256, is 0.
-pub fn is_sound(text: &[u8]) -> bool
-    ensures { λ r. ⌜ r ≡ isSound (now (text .entry)) ⌝ }
+fn larger(x: u8, y: u8) -> u8
+    ensures { λ r. ⌜ (x ≤ r) × (y ≤ r) × ((r ≡ x) ⊎ (r ≡ y)) ⌝ }
+{
+    if x < y { y } else { x }
+}
+
+// The worths of a text's digits, and the largest of them. It goes through all the text, even past a byte that is no digit: a loop with one way out
+// becomes one over vectors.
+fn worths_of(text: &[u8], worths: &mut [u8]) -> u8
+    requires { ⌜ length (now text) ≤ length (now worths) ⌝ }
+    ensures { λ r. ⌜ WorthsRead (now (text .entry)) r (now (worths .exit)) ⌝ }
+{
+    let mut most: u8 = 0;
+    let mut i: usize = 0;
+    while i < text.len() {
+        let d = digit(text[i]);
+        worths[i] = d;
+        most = larger(most, d);
+        i += 1;
+    }
+    most
+}
+
+// The bytes of n pairs of digits, and their sum, carried round at 256.
+fn bytes_of(worths: &[u8], n: usize, bytes: &mut [u8]) -> u8
+    requires { ⌜ (2 * n ≤ length (now worths)) × (n ≤ length (now bytes)) × ((i : ℕ) → i < 2 * n → getD (now worths) i 0 < 16) ⌝ }
+    ensures { λ r. ⌜ BytesLaid (now (worths .entry)) n r (now (bytes .exit)) ⌝ }
 {
     let mut sum: u8 = 0;
     let mut i: usize = 0;
-    while i < text.len() {
-        let high = digit(text[i]);
-        if 16 <= high {
-            return false;
-        }
+    while i < n {
+        let b = 16 * worths[2 * i] + worths[2 * i + 1];
+        bytes[i] = b;
+        sum = num::wrapping_add_u8(sum, b);
         i += 1;
-        if text.len() <= i {
-            return false;
-        }
-        let low = digit(text[i]);
-        if 16 <= low {
-            return false;
-        }
-        i += 1;
-        sum = num::wrapping_add_u8(sum, 16 * high + low);
     }
-    sum == 0
+    sum
 }
 
-// Byte i of a text.
-pub(crate) fn byte_at(text: &[u8], i: usize) -> u8
-    requires { ⌜ 2 * i + 1 < length (now text) ⌝ }
-    ensures { λ r. ⌜ Is (getD (bytesOf (now (text .entry))) i 0) 256 r ⌝ }
+// Whether a text of whole bytes is sound: capital digits, and a sum that is 0. Its bytes, if it is.
+pub(crate) fn decode(text: &[u8], bytes: &mut [u8]) -> bool
+    requires { ⌜ (length (now text) % 2 ≡ 0) × (length (now text) ≤ 136) × (length (now bytes) ≡ 68) ⌝ }
+    ensures { λ r. ⌜ Decoded (now (text .entry)) r (now (bytes .exit)) ⌝ }
 {
-    let j = 2 * i;
-    let high = value(text[j]);
-    let low = value(text[j + 1]);
-    16 * high + low
+    let mut worths = [0u8; 136];
+    if worths_of(text, &mut worths) < 16 {
+        return bytes_of(&worths, text.len() / 2, bytes) == 0;
+    }
+    false
 }

@@ -22,12 +22,11 @@ use Rattle.jumper.proofs.Accepted.{number-of}
 use Rattle.jumper.proofs.Checks.{asked-accepted}
 use Rattle.wiring.specs.Wiring.{pad, topPad}
 use Rattle.wiring.specs.Drawing.{drawn}
-use Rattle.frame.specs.Hex.{bytesOf}
-use Rattle.frame.specs.Frame.{Frame, bad, header, bottom, top, fours, textFrame, saidOf}
+use Rattle.frame.specs.Frame.{Frame, bad, header, bottom, top, textFrame, saidOf, columnsOf}
 use Rattle.frame.specs.Written.{answerLine}
-use Rattle.frame.specs.Puts.{puts, ColumnsPut}
+use Rattle.frame.specs.Puts.{puts, ReadIn}
 use Rattle.frame.proofs.Puts.{take-puts}
-use Rattle.frame.proofs.Frames.{Carried, carried}
+use Rattle.frame.proofs.Frames.{Few, few}
 use Rattle.frame.specs.declared.read.Order.{Order}
 use Rattle.frame.specs.declared.read.Said.{Said}
 use Rattle.frame.specs.declared.read.Said.the-variants.{Bad, Header, Bottom, Top}
@@ -37,7 +36,7 @@ use Rattle.sheet.specs.Planned.{planned, PlanTold}
 use Rattle.sheet.specs.Machine.{Mode, ready, inside, skipping, Reaction, shown, refusalText, routeText, lineText, opens, fillsBottom, fillsTop, react, noted, atEnd, machine, answers}
 use Rattle.sheet.specs.Steps.{hasLine, withLine, noOrder, noAnswer, quietBy, owingBy, skips, refusing, headed, heading, cutOff, complete, filling, isHeld, readyTo, skippingTo, bottomTo, BottomPut, topTo, TopPut}
 use Rattle.sheet.specs.Owes.{modeBy, modeOf, seenBy, framesFrom, lastFrame, routeLeft, isAsked, leftText, pending, later, owes, isBusy, Fresh, Finished}
-use Rattle.sheet.specs.Parts.{Reacted, TakenIn, Kept}
+use Rattle.sheet.specs.Parts.{Reacted, TakenIn, LineFound, textIn}
 use Rattle.sheet.specs.declared.state.Phase.{Phase}
 use Rattle.sheet.specs.declared.state.Phase.the-variants.{Ready, Inside, Skipping}
 use Rattle.sheet.specs.declared.state.State.{State}
@@ -285,13 +284,12 @@ module _ (s : State) (a b : List ℤ) (here : s .phase ≡ Inside) (ok : isHeld 
       })
 
   -- the columns of a frame after those that the row has
-  joined : (row row' : List ℤ) (have : ℕ) (text : List ℕ) (cs : List ℤ) → length row ≡ 2048 → have + length cs ≤ 2048
-      → cs ≡ fours (bytesOf text) 3 (length cs) → 8 * length cs + 6 ≤ length text → ColumnsPut text (length cs) row have row' → take (have + length cs) row' ≡ take have row ++ cs
-  joined row row' have text cs full h e long p =
-      let q : row' ≡ puts row have cs = p .room long (omega arith) ∙ ap (puts row have) (sym e) in
-      ap (take (have + length cs)) q ∙ take-puts row have cs (omega arith)
+  joined : (row row' : List ℤ) (have : ℕ) (columns cs : List ℤ) → length row ≡ 2048 → have + length cs ≤ 2048 → take (length cs) columns ≡ cs
+      → row' ≡ puts row have (take (length cs) columns) → take (have + length cs) row' ≡ take have row ++ cs
+  joined row row' have columns cs full h e p =
+      ap (take (have + length cs)) (p ∙ ap (puts row have) e) ∙ take-puts row have cs (omega arith)
 
-  module _ (text : List ℕ) (l : ℕ) (cs : List ℤ) (c : cs ≡ fours (bytesOf text) 3 (length cs)) (long : 8 * length cs + 6 ≤ length text) (la : length a ≡ 2048) (lb : length b ≡ 2048) where
+  module _ (columns : List ℤ) (l : ℕ) (cs : List ℤ) (c : take (length cs) columns ≡ cs) (la : length a ≡ 2048) (lb : length b ≡ 2048) where
     h : Held s
     h = held s ok
 
@@ -301,7 +299,7 @@ module _ (s : State) (a b : List ℤ) (here : s .phase ≡ Inside) (ok : isHeld 
     tops : length (take (s .top) b) ≡ s .top
     tops = let k = h in length-take-le (s .top) b (omega arith)
 
-    pub inside-bottom : (r : State) (a' : List ℤ) → BottomPut s text a l (length cs) r a' → Reacted s a b (bottom l cs) r a' b
+    pub inside-bottom : (r : State) (a' : List ℤ) → BottomPut s columns a l (length cs) r a' → Reacted s a b (bottom l cs) r a' b
     unfolding react fillsBottom bottomTo
     inside-bottom r a' p =
         let k = h in
@@ -312,7 +310,7 @@ module _ (s : State) (a b : List ℤ) (here : s .phase ≡ Inside) (ok : isHeld 
         let small : length cs ≤ s .order .pairs - s .bottom = leb-true _ _ f in
         let t : leb (s .bottom + length cs) (s .order .pairs) ≡ true = le-leb (s .bottom + length cs) (s .order .pairs) (omega arith) in
         let q : r ≡ filling s (s .bottom + length cs) (s .top) = p .is ∙ simp (e, f) in
-        let j : take (s .bottom + length cs) a' ≡ take (s .bottom) a ++ cs = joined a a' (s .bottom) text cs la (omega arith) c long (p .put (eqb-true _ _ e) small) in
+        let j : take (s .bottom + length cs) a' ≡ take (s .bottom) a ++ cs = joined a a' (s .bottom) columns cs la (omega arith) c (p .put (eqb-true _ _ e) small) in
         let g : react (seenBy s) (modeOf s a b) (bottom l cs) ≡ record { out = []; to = inside (s .order) (take (s .bottom) a ++ cs) (take (s .top) b) } = rw m (simp (e, bottoms, t)) in
         let still : isHeld (filling s (s .bottom + length cs) (s .top)) ≡ true = unheld (filling s (s .bottom + length cs) (s .top)) (omega arith) (k .top) (k .few) in
         record {
@@ -327,7 +325,7 @@ module _ (s : State) (a b : List ℤ) (here : s .phase ≡ Inside) (ok : isHeld 
         refused-reacted s r a b (bottom l cs) (s .order .line) Sequence a' b (p .is ∙ simp (e, f)) (rw m (simp (e, bottoms, t))) (λ k. refl)))
         (λ e. refused-reacted s r a b (bottom l cs) (s .order .line) Sequence a' b (p .is ∙ simp e) (rw m (simp e)) (λ k. refl))
 
-    pub inside-top : (r : State) (b' : List ℤ) → TopPut s text a b l (length cs) r b' → Reacted s a b (top l cs) r a b'
+    pub inside-top : (r : State) (b' : List ℤ) → TopPut s columns a b l (length cs) r b' → Reacted s a b (top l cs) r a b'
     unfolding react fillsTop topTo
     inside-top r b' p =
         let k = h in
@@ -341,7 +339,7 @@ module _ (s : State) (a b : List ℤ) (here : s .phase ≡ Inside) (ok : isHeld 
         (λ f.
         let small : length cs ≤ s .order .pairs - s .top = leb-true _ _ f in
         let t : leb (s .top + length cs) (s .order .pairs) ≡ true = le-leb (s .top + length cs) (s .order .pairs) (omega arith) in
-        let j : take (s .top + length cs) b' ≡ take (s .top) b ++ cs = joined b b' (s .top) text cs lb (omega arith) c long (p .put (eqb-true _ _ e) full small) in
+        let j : take (s .top + length cs) b' ≡ take (s .top) b ++ cs = joined b b' (s .top) columns cs lb (omega arith) c (p .put (eqb-true _ _ e) full small) in
         either (eqb (s .top + length cs) (s .order .pairs))
         (λ z.
         let q : r ≡ complete s N = p .is ∙ simp (e, d, f, z) in
@@ -391,26 +389,59 @@ module _ (s : State) (a b : List ℤ) (here : s .phase ≡ Inside) (ok : isHeld 
   said-header (bottom l cs) r o q e = clash (cc)
   said-header (top l cs) r o q e = clash (cc)
 
-  module _ (text : List ℕ) (la : length a ≡ 2048) (lb : length b ≡ 2048) where
-    pub said-bottom : (f : Frame) → Carried text f → (r : State) (l k : ℕ) (a' : List ℤ) → saidOf f ≡ Bottom l k → BottomPut s text a l k r a' → Reacted s a b f r a' b
+  module _ (columns : List ℤ) (la : length a ≡ 2048) (lb : length b ≡ 2048) where
+    pub said-bottom : (f : Frame) → take (length (columnsOf f)) columns ≡ columnsOf f → (r : State) (l k : ℕ) (a' : List ℤ) → saidOf f ≡ Bottom l k → BottomPut s columns a l k r a' → Reacted s a b f r a' b
     said-bottom bad h r l k a' q p = clash (cc)
     said-bottom (header o) h r l k a' q p = clash (cc)
     said-bottom (bottom l' cs) h r l k a' q p =
         let w : l ≡ l' = cc in
         let v : k ≡ length cs = cc in
-        inside-bottom s a b here ok text l' cs (h .0) (h .1) la lb r a'
-        (subst (λ (z : ℕ). BottomPut s text a l' z r a') v (subst (λ (z : ℕ). BottomPut s text a z k r a') w p))
+        inside-bottom s a b here ok columns l' cs h la lb r a'
+        (subst (λ (z : ℕ). BottomPut s columns a l' z r a') v (subst (λ (z : ℕ). BottomPut s columns a z k r a') w p))
     said-bottom (top l' cs) h r l k a' q p = clash (cc)
 
-    pub said-top : (f : Frame) → Carried text f → (r : State) (l k : ℕ) (b' : List ℤ) → saidOf f ≡ Top l k → TopPut s text a b l k r b' → Reacted s a b f r a b'
+    pub said-top : (f : Frame) → take (length (columnsOf f)) columns ≡ columnsOf f → (r : State) (l k : ℕ) (b' : List ℤ) → saidOf f ≡ Top l k → TopPut s columns a b l k r b' → Reacted s a b f r a b'
     said-top bad h r l k b' q p = clash (cc)
     said-top (header o) h r l k b' q p = clash (cc)
     said-top (bottom l' cs) h r l k b' q p = clash (cc)
     said-top (top l' cs) h r l k b' q p =
         let w : l ≡ l' = cc in
         let v : k ≡ length cs = cc in
-        inside-top s a b here ok text l' cs (h .0) (h .1) la lb r b'
-        (subst (λ (z : ℕ). TopPut s text a b l' z r b') v (subst (λ (z : ℕ). TopPut s text a b z k r b') w p))
+        inside-top s a b here ok columns l' cs h la lb r b'
+        (subst (λ (z : ℕ). TopPut s columns a b l' z r b') v (subst (λ (z : ℕ). TopPut s columns a b z k r b') w p))
+
+-- the columns of a frame stand in front of the lent memory, which has room for all of them
+few-all : (f : Frame) → Few f → length (columnsOf f) ≤ 16
+few-all bad h = omega arith
+few-all (header o) h = omega arith
+few-all (bottom l cs) h = h .1
+few-all (top l cs) h = h .1
+
+pub carried-in : (text : List ℕ) (columns columns' : List ℤ) (r : Said) → length columns ≡ 16 → ReadIn (textFrame text) columns r columns'
+    → take (length (columnsOf (textFrame text))) columns' ≡ columnsOf (textFrame text)
+carried-in text columns columns' r n h =
+    let cs : List ℤ = columnsOf (textFrame text) in
+    let m = few-all (textFrame text) (few text) in
+    let z : length cs ≡ 0 + length cs = omega arith in
+    ap (take (length cs)) (h .carried) ∙ ap (λ (k : ℕ). take k (puts columns 0 cs)) z ∙ take-puts columns 0 cs (omega arith)
+
+bottom-few : (f : Frame) (l k : ℕ) → Few f → saidOf f ≡ Bottom l k → k ≤ 16
+bottom-few bad l k h q = clash (cc)
+bottom-few (header o) l k h q = clash (cc)
+bottom-few (bottom l' cs) l k h q = let v : k ≡ length cs = cc in let m = h .1 in omega arith
+bottom-few (top l' cs) l k h q = clash (cc)
+
+top-few : (f : Frame) (l k : ℕ) → Few f → saidOf f ≡ Top l k → k ≤ 16
+top-few bad l k h q = clash (cc)
+top-few (header o) l k h q = clash (cc)
+top-few (bottom l' cs) l k h q = clash (cc)
+top-few (top l' cs) l k h q = let v : k ≡ length cs = cc in let m = h .1 in omega arith
+
+pub few-bottom : (text : List ℕ) (l k : ℕ) → saidOf (textFrame text) ≡ Bottom l k → k ≤ 16
+few-bottom text l k q = bottom-few (textFrame text) l k (few text) q
+
+pub few-top : (text : List ℕ) (l k : ℕ) → saidOf (textFrame text) ≡ Top l k → k ≤ 16
+few-top text l k q = top-few (textFrame text) l k (few text) q
 
 -- ---- a fresh sheet
 
@@ -518,26 +549,27 @@ moved-busy s at = refl
 
 module _ (W : List ℕ → List ℕ) (st : State) (line : List ℕ) (a b : List ℤ) (piece : List ℕ) (i : ℕ)
     (inv : (rest : List ℕ) → W rest ≡ owes st line a b (drop i piece ++ rest)) (idle : isBusy st ≡ false)
-    (at' i' : ℕ) (line' : List ℕ) (k : Kept line (st .at) piece i at' i' line') where
-  pub kept-owes : (rest : List ℕ) → W rest ≡ owes (moved st at') line' a b (drop i' piece ++ rest)
+    (at' i' : ℕ) (line' : List ℕ) (k : LineFound line (st .at) piece i at' i' line') where
+  pub kept-owes : length piece ≤ i' → (rest : List ℕ) → W rest ≡ owes (moved st at') line' a b (drop i' piece ++ rest)
   unfolding owes later modeOf isHeld pending leftText
-  kept-owes rest =
-      inv rest ∙ ap (λ (fs : List Frame). pending st a b ++ machine (seenBy st) (modeOf st a b) fs) (k .frames rest)
+  kept-owes h rest =
+      inv rest ∙ ap (λ (fs : List Frame). pending st a b ++ machine (seenBy st) (modeOf st a b) fs) (k .part h rest)
 
   -- a line feed: the text is whole
-  pub fed-owes : (r : State) (a' b' : List ℤ) → i' < length piece → Reacted (moved st at') a b (textFrame (take at' line')) r a' b'
+  pub fed-owes : (r : State) (a' b' : List ℤ) → i' < length piece → Reacted (moved st at') a b (textFrame (textIn at' line' piece i i')) r a' b'
       → (rest : List ℕ) → W rest ≡ owes r line' a' b' (drop (i' + 1) piece ++ rest)
-  unfolding owes later framesFrom machine
+  unfolding owes later modeOf isHeld framesFrom machine pending leftText
   fed-owes r a' b' h f rest =
       let R : List ℕ = drop (i' + 1) piece ++ rest in
       let d : drop i' piece ≡ 10 ∷ drop (i' + 1) piece = rw (add-one, drop-cons piece i' 0, k .feed h) in
-      let x : Frame = textFrame (take at' line') in
+      let t : List ℕ = textIn at' line' piece i i' in
+      let x : Frame = textFrame t in
       let m : Mode = modeOf (moved st at') a b in
       let none : pending (moved st at') a b ≡ [] = not-busy (moved st at') a b (still idle) in
       let first : W rest ≡ react (seenBy st) m x .out ++ machine (noted (seenBy st) x) (react (seenBy st) m x .to) (framesFrom [] R) =
-      kept-owes rest
-      ∙ ap (λ (p : List ℕ). p ++ machine (seenBy st) m (framesFrom (take at' line') (drop i' piece ++ rest))) none
-      ∙ ap (λ (p : List ℕ). machine (seenBy st) m (framesFrom (take at' line') (p ++ rest))) d in
+      inv rest ∙ ap (λ (fs : List Frame). pending st a b ++ machine (seenBy st) (modeOf st a b) fs) (k .whole h rest)
+      ∙ ap (λ (p : List ℕ). p ++ machine (seenBy st) m (framesFrom t (drop i' piece ++ rest))) none
+      ∙ ap (λ (p : List ℕ). machine (seenBy st) m (framesFrom t (p ++ rest))) d in
       let same : machine (noted (seenBy st) x) (modeOf r a' b') (framesFrom [] R) ≡ machine (seenBy r) (modeOf r a' b') (framesFrom [] R) =
       machine-agree (noted (seenBy st) x) (seenBy r) (λ l g. sym (f .seen l g)) (modeOf r a' b') (framesFrom [] R) in
       let at0 : take (r .at) line' ≡ [] = ap (λ (n : ℕ). take n line') (f .begun) in

@@ -3,6 +3,7 @@ use mathlib.Core.Bool.{Bool, true, false, cond}
 use mathlib.Core.Path.{_≡_}
 use mathlib.Core.List.{List, [], _++_}
 use Prim.Native.Nat.{ℕ, _+_, _-_, _<_, _≤_}
+use lib.Dec.{eqb}
 use lib.ListN.{length, getD, take, drop, set}
 use lib.IntN.{ℤ}
 use Rattle.wiring.specs.Wiring.{pad, topPad}
@@ -25,12 +26,29 @@ pub record StoredIn (line : List ℕ) (at b at' : ℕ) (line' : List ℕ) : Type
   pub room : at < length line → (at' ≡ at + 1) × (line' ≡ set line at b)
   pub full : length line ≤ at → (at' ≡ at) × (line' ≡ line)
 
--- bytes of a piece from i on are kept as text, up to a line feed or the piece's end
-pub record Kept (line : List ℕ) (at : ℕ) (piece : List ℕ) (i at' i' : ℕ) (line' : List ℕ) : Type 0 where
-  pub frames : (rest : List ℕ) → framesFrom (take at line) (drop i piece ++ rest) ≡ framesFrom (take at' line') (drop i' piece ++ rest)
-  pub within : i' ≤ length piece
+-- the first line feed from place `from` of a piece on is at place `at`; the piece's end if there is none
+pub record FeedAt (piece : List ℕ) (from at : ℕ) : Type 0 where
+  pub ahead : from ≤ at
+  pub within : at ≤ length piece
+  pub feed : at < length piece → getD piece at 0 ≡ 10
+  pub none : (j : ℕ) → from ≤ j → j < at → getD piece j 0 ≡ 10 → ⊥
+
+-- bytes are kept as text, if none of them is a line feed
+pub record Kept (line : List ℕ) (at : ℕ) (bytes : List ℕ) (at' : ℕ) (line' : List ℕ) : Type 0 where
+  pub frames : ((j : ℕ) → j < length bytes → getD bytes j 0 ≡ 10 → ⊥) → (rest : List ℕ) → framesFrom (take at line) (bytes ++ rest) ≡ framesFrom (take at' line') rest
+  pub grown : at ≤ at'
+
+-- the text of a line that ends at place j of a piece: kept in `line` if it began before the piece, else where it stands, from place i on
+abbrev pub textIn : (at : ℕ) (line piece : List ℕ) (i j : ℕ) → List ℕ
+textIn at line piece i j = cond (eqb at 0) (take (j - i) (drop i piece)) (take at line)
+
+-- a line goes on from place i of a piece to a line feed at place i', or to the piece's end
+pub record LineFound (line : List ℕ) (at : ℕ) (piece : List ℕ) (i at' i' : ℕ) (line' : List ℕ) : Type 0 where
   pub ahead : i ≤ i'
+  pub within : i' ≤ length piece
   pub feed : i' < length piece → getD piece i' 0 ≡ 10
+  pub whole : i' < length piece → (rest : List ℕ) → framesFrom (take at line) (drop i piece ++ rest) ≡ framesFrom (textIn at' line' piece i i') (drop i' piece ++ rest)
+  pub part : length piece ≤ i' → (rest : List ℕ) → framesFrom (take at line) (drop i piece ++ rest) ≡ framesFrom (take at' line') (drop i' piece ++ rest)
 
 -- a piece is taken in as far as `used`, until something is to be written
 pub record TakenIn (s : State) (line : List ℕ) (a b : List ℤ) (piece : List ℕ) (r : State) (used : ℕ) (line' : List ℕ) (a' b' : List ℤ) : Type 0 where

@@ -16,7 +16,7 @@ use Rattle.frame.specs.declared.read.Order.{Order}
 use Rattle.frame.specs.declared.read.Said.{Said}
 use Rattle.frame.specs.declared.read.Said.the-variants.{Bad, Header, Bottom, Top}
 use Rattle.frame.specs.declared.write.Answer.{Answer}
-use Rattle.frame.specs.Puts.{ColumnsPut}
+use Rattle.frame.specs.Puts.{puts}
 use Rattle.sheet.specs.Planned.{planned, PlanTold}
 use Rattle.sheet.specs.Machine.{shown}
 use Rattle.sheet.specs.declared.state.Phase.{Phase}
@@ -98,9 +98,9 @@ bottomTo s l k =
     (refusing (s .order .line) Sequence (s .seen))
 
 -- k columns of the open line's bottom row, which go to the row if they are in their place
-pub record BottomPut (s : State) (text : List ℕ) (a : List ℤ) (l k : ℕ) (r : State) (a' : List ℤ) : Type 0 where
+pub record BottomPut (s : State) (columns a : List ℤ) (l k : ℕ) (r : State) (a' : List ℤ) : Type 0 where
   pub is : r ≡ bottomTo s l k
-  pub put : l ≡ s .order .line → k ≤ s .order .pairs - s .bottom → ColumnsPut text k a (s .bottom) a'
+  pub put : l ≡ s .order .line → k ≤ s .order .pairs - s .bottom → a' ≡ puts a (s .bottom) (take k columns)
 
 unfoldable pub topTo : State → ℕ → ℕ → Numbers → State
 topTo s l k answer =
@@ -112,8 +112,8 @@ topTo s l k answer =
     (refusing (s .order .line) Sequence (s .seen)))
     (refusing (s .order .line) Sequence (s .seen))
 
-pub record TopPut (s : State) (text : List ℕ) (a b : List ℤ) (l k : ℕ) (r : State) (b' : List ℤ) : Type 0 where
+pub record TopPut (s : State) (columns a b : List ℤ) (l k : ℕ) (r : State) (b' : List ℤ) : Type 0 where
   pub is : r ≡ topTo s l k (planned (s .order .separation) (s .order .offset) (take (s .order .pairs) a) (take (s .order .pairs) b'))
-  pub put : l ≡ s .order .line → s .bottom ≡ s .order .pairs → k ≤ s .order .pairs - s .top → ColumnsPut text k b (s .top) b'
+  pub put : l ≡ s .order .line → s .bottom ≡ s .order .pairs → k ≤ s .order .pairs - s .top → b' ≡ puts b (s .top) (take k columns)
   pub asked : l ≡ s .order .line → s .bottom ≡ s .order .pairs → k ≤ s .order .pairs - s .top → s .top + k ≡ s .order .pairs
       → PlanTold (s .order .separation) (s .order .offset) (take (s .order .pairs) a) (take (s .order .pairs) b') (planned (s .order .separation) (s .order .offset) (take (s .order .pairs) a) (take (s .order .pairs) b'))

@@ -6,15 +6,16 @@ ghost use Prim.Native.Nat.{_≤_};
 ghost use lib.ListN.{length};
 ghost use lib.IntN.{ℤ};
 ghost use Rattle.sheet.specs.Owes.{Fed, Finished};
-ghost use Rattle.sheet.specs.Parts.{StoredIn, Kept, TakenIn};
+ghost use Rattle.sheet.specs.Parts.{StoredIn, Kept, LineFound, TakenIn, textIn};
 use crate::give::give_all;
+use crate::line_end::line_end;
 use crate::state::Phase;
 use crate::state::State;
 use crate::state::busy;
 use crate::state::held;
 use crate::state::refuse;
 use crate::state::skip;
-use crate::step::on_line;
+use crate::step::on_text;
 use jumper::refusal::Refusal;
 
 // A state, how much of the piece was taken in, and the place after what was written.
@@ -45,22 +46,47 @@ fn store(line: &mut [u8], at: usize, b: u8) -> usize
     at
 }
 
-// The bytes of a piece from place `from` on, up to a line feed or the piece's end.
-fn keep(line: &mut [u8], at: usize, piece: &[u8], from: usize) -> Keeping
-    requires { ⌜ (length (now line) ≡ 160) × (from ≤ length (now piece)) ⌝ }
-    ensures { λ r. ⌜ Kept (now (line .entry)) at (now (piece .entry)) from (r .at) (r .i) (now (line .exit)) ⌝ }
+// Bytes of a line, none of them a line feed, after those that are kept already.
+fn keep(line: &mut [u8], at: usize, bytes: &[u8]) -> usize
+    requires { ⌜ length (now line) ≡ 160 ⌝ }
+    ensures { λ r. ⌜ Kept (now (line .entry)) at (now (bytes .entry)) r (now (line .exit)) ⌝ }
 {
     let mut n = at;
-    let mut i = from;
-    while i < piece.len() {
-        let b = piece[i];
-        if b == 10 {
-            return Keeping { at: n, i };
-        }
-        n = store(line, n, b);
+    let mut i: usize = 0;
+    while i < bytes.len() {
+        n = store(line, n, bytes[i]);
         i += 1;
     }
+    n
+}
+
+// Goes on from place `from` of a piece to the end of the current line, or to the piece's end. A line that stands in the piece as a whole isn't copied.
+fn find_line(line: &mut [u8], at: usize, piece: &[u8], from: usize) -> Keeping
+    requires { ⌜ (length (now line) ≡ 160) × (from ≤ length (now piece)) ⌝ }
+    ensures { λ r. ⌜ LineFound (now (line .entry)) at (now (piece .entry)) from (r .at) (r .i) (now (line .exit)) ⌝ }
+{
+    let i = line_end(piece, from);
+    if at == 0 {
+        if i < piece.len() {
+            return Keeping { at: 0, i };
+        }
+    }
+    let n = keep(line, at, &piece[from..i]);
     Keeping { at: n, i }
+}
+
+// The text of a line that ends at place `to` of a piece.
+fn text_of<'x>(line: &'x [u8], at: usize, piece: &'x [u8], from: usize, to: usize) -> &'x [u8]
+    requires { ⌜ (from ≤ to) × (to ≤ length (now piece)) ⌝ }
+    ensures { λ r. ⌜ now r ≡ textIn at (now (line .entry)) (now (piece .entry)) from to ⌝ }
+{
+    if at == 0 {
+        return &piece[from..to];
+    }
+    if at <= line.len() {
+        return &line[..at];
+    }
+    line
 }
 
 // Takes a piece in until something is to be written, or the piece ends.
@@ -74,14 +100,13 @@ fn take_in(line: &mut [u8], a: &mut [i32], b: &mut [i32], s: State, piece: &[u8]
         if busy(st) {
             return Taking { s: st, used: i };
         }
-        let k = keep(line, st.at, piece, i);
+        let k = find_line(line, st.at, piece, i);
         st.at = k.at;
-        i = k.i;
-        if piece.len() <= i {
-            return Taking { s: st, used: i };
+        if piece.len() <= k.i {
+            return Taking { s: st, used: k.i };
         }
-        st = on_line(line, a, b, st);
-        i += 1;
+        st = on_text(text_of(line, k.at, piece, i, k.i), a, b, st);
+        i = k.i + 1;
     }
     Taking { s: st, used: i }
 }

@@ -3,6 +3,7 @@
 mod column;
 pub mod feed;
 pub mod give;
+mod line_end;
 mod plan;
 mod seen;
 pub mod state;

@@ -4,6 +4,7 @@ ghost use mathlib.Core.Bool.{true, false};
 ghost use Prim.Native.Nat.{_+_, _≤_};
 ghost use lib.ListN.{length, take};
 ghost use Rattle.frame.specs.Frame.{textFrame, saidOf};
+ghost use Rattle.frame.specs.Puts.{puts};
 ghost use Rattle.sheet.specs.Steps.{isHeld, readyTo, skippingTo, BottomPut, TopPut};
 ghost use Rattle.sheet.specs.Parts.{Reacted};
 use crate::plan::plan_first;
@@ -18,7 +19,6 @@ use crate::state::refuse;
 use crate::state::skip;
 use frame::read::Order;
 use frame::read::Said;
-use frame::read::columns;
 use frame::read::read_text;
 use jumper::refusal::Refusal;
 
@@ -49,9 +49,21 @@ fn on_skipping(s: State, said: Said) -> State
     }
 }
 
-fn on_bottom(text: &[u8], a: &mut [i32], s: State, line: u8, k: usize) -> State
-    requires { ⌜ isHeld s ≡ true ⌝ }
-    ensures { λ r. ⌜ BottomPut s (now (text .entry)) (now (a .entry)) line k r (now (a .exit)) ⌝ }
+// The first k columns, into a row from place `to` on.
+fn put(columns: &[i32], k: usize, row: &mut [i32], to: usize)
+    requires { ⌜ (k ≤ length (now columns)) × (to + k ≤ length (now row)) ⌝ }
+    ensures { λ _. ⌜ now (row .exit) ≡ puts (now (row .entry)) to (take k (now (columns .entry))) ⌝ }
+{
+    let mut j: usize = 0;
+    while j < k {
+        row[to + j] = columns[j];
+        j += 1;
+    }
+}
+
+fn on_bottom(columns: &[i32; 16], a: &mut [i32], s: State, line: u8, k: usize) -> State
+    requires { ⌜ (isHeld s ≡ true) × (k ≤ 16) × (length (now a) ≡ 2048) ⌝ }
+    ensures { λ r. ⌜ BottomPut s (now (columns .entry)) (now (a .entry)) line k r (now (a .exit)) ⌝ }
 {
     let order = s.order;
     let seen = s.seen;
@@ -59,7 +71,7 @@ fn on_bottom(text: &[u8], a: &mut [i32], s: State, line: u8, k: usize) -> State
     let top = s.top;
     if line == order.line {
         if k <= order.pairs - bottom {
-            columns(text, k, a, bottom);
+            put(columns, k, a, bottom);
             return quiet(Phase::Inside, order, bottom + k, top, seen);
         }
         return refuse(order.line, Refusal::Sequence, seen);
@@ -67,9 +79,9 @@ fn on_bottom(text: &[u8], a: &mut [i32], s: State, line: u8, k: usize) -> State
     refuse(order.line, Refusal::Sequence, seen)
 }
 
-fn on_top(text: &[u8], a: &[i32], b: &mut [i32], s: State, line: u8, k: usize) -> State
-    requires { ⌜ (isHeld s ≡ true) × (length (now a) ≡ 2048) × (length (now b) ≡ 2048) ⌝ }
-    ensures { λ r. ⌜ TopPut s (now (text .entry)) (now (a .entry)) (now (b .entry)) line k r (now (b .exit)) ⌝ }
+fn on_top(columns: &[i32; 16], a: &[i32], b: &mut [i32], s: State, line: u8, k: usize) -> State
+    requires { ⌜ (isHeld s ≡ true) × (k ≤ 16) × (length (now a) ≡ 2048) × (length (now b) ≡ 2048) ⌝ }
+    ensures { λ r. ⌜ TopPut s (now (columns .entry)) (now (a .entry)) (now (b .entry)) line k r (now (b .exit)) ⌝ }
 {
     let order = s.order;
     let seen = s.seen;
@@ -78,7 +90,7 @@ fn on_top(text: &[u8], a: &[i32], b: &mut [i32], s: State, line: u8, k: usize) -
     if line == order.line {
         if bottom == order.pairs {
             if k <= order.pairs - top {
-                columns(text, k, b, top);
+                put(columns, k, b, top);
                 if top + k == order.pairs {
                     return done(
                         s,
@@ -100,39 +112,37 @@ fn on_inside(text: &[u8], a: &mut [i32], b: &mut [i32], s: State) -> State
 {
     let line = s.order.line;
     let seen = s.seen;
-    match read_text(text) {
+    let mut columns = [0i32; 16];
+    match read_text(text, &mut columns) {
         Said::Bad => refuse(line, Refusal::Frame, seen),
         Said::Header(o) => cut_off(line, head(s, o)),
-        Said::Bottom(l, k) => on_bottom(text, a, s, l, k),
-        Said::Top(l, k) => on_top(text, a, b, s, l, k),
+        Said::Bottom(l, k) => on_bottom(&columns, a, s, l, k),
+        Said::Top(l, k) => on_top(&columns, a, b, s, l, k),
     }
 }
 
-fn on_text(text: &[u8], a: &mut [i32], b: &mut [i32], s: State) -> State
+// What a line says where its columns don't matter.
+fn said_of(text: &[u8]) -> Said
+    ensures { λ r. ⌜ r ≡ saidOf (textFrame (now (text .entry))) ⌝ }
+{
+    let mut columns = [0i32; 16];
+    read_text(text, &mut columns)
+}
+
+// A whole line, by its text: all before its line feed.
+pub(crate) fn on_text(text: &[u8], a: &mut [i32], b: &mut [i32], s: State) -> State
     requires { ⌜ (length (now a) ≡ 2048) × (length (now b) ≡ 2048) ⌝ }
     ensures { λ r. ⌜ Reacted s (now (a .entry)) (now (b .entry)) (textFrame (now (text .entry))) r (now (a .exit)) (now (b .exit)) ⌝ }
 {
     let phase = s.phase;
     match phase {
-        Phase::Ready => on_ready(s, read_text(text)),
-        Phase::Skipping => on_skipping(s, read_text(text)),
+        Phase::Ready => on_ready(s, said_of(text)),
+        Phase::Skipping => on_skipping(s, said_of(text)),
         Phase::Inside => {
             if held(s) {
                 return on_inside(text, a, b, s);
             }
-            on_skipping(s, read_text(text))
+            on_skipping(s, said_of(text))
         }
     }
-}
-
-// The text is the first `at` bytes of the lent line.
-pub(crate) fn on_line(line: &[u8], a: &mut [i32], b: &mut [i32], s: State) -> State
-    requires { ⌜ (length (now a) ≡ 2048) × (length (now b) ≡ 2048) ⌝ }
-    ensures { λ r. ⌜ Reacted s (now (a .entry)) (now (b .entry)) (textFrame (take (s .at) (now (line .entry)))) r (now (a .exit)) (now (b .exit)) ⌝ }
-{
-    let at = s.at;
-    if at <= line.len() {
-        return on_text(&line[..at], a, b, s);
-    }
-    on_text(line, a, b, s)
 }

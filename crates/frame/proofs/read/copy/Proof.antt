@@ -1,9 +1,8 @@
 use native.Mathlib.Omega.{arith}
 use mathlib.Core.Path.{_≡_, refl, sym, _∙_}
-use Prim.Native.Nat.{_≤_, _<_, _-_, _+_, _*_}
+use Prim.Native.Nat.{_≤_, _-_, _+_, _*_}
 use lib.ListN.{length, length-set}
 use Rattle.whole.proofs.Machine.{back}
-use Rattle.frame.specs.Hex.{bytesOf}
 use Rattle.frame.specs.Frame.{fours}
 use Rattle.frame.specs.Puts.{puts}
 use Rattle.frame.proofs.Puts.{column-start, column-more, column-none}
@@ -12,13 +11,13 @@ use Rattle.frame.proofs.read.copy.Statement.{statement}
 use Rattle.frame.proofs.read.copy.Tie as tie
 
 abbrev Inv-loop : tie.InvT-loop
-Inv-loop text k row₀ to j₀ row j = (j ≤ k) × (length row ≡ length row₀) × (puts row₀ to (fours (bytesOf text) 3 k) ≡ puts row (to + j) (fours (bytesOf text) (4 * j + 3) (k - j)))
+Inv-loop bytes k columns₀ j₀ columns j = (j ≤ k) × (length columns ≡ length columns₀) × (puts columns₀ 0 (fours bytes 3 k) ≡ puts columns j (fours bytes (4 * j + 3) (k - j)))
 
 abbrev μ-loop : tie.MeasureT-loop
-μ-loop text k row₀ to j₀ row j = k - j
+μ-loop bytes k columns₀ j₀ columns j = k - j
 
 loop-holds : tie.Need-loop-holds Inv-loop μ-loop
-loop-holds c = (search needs, search needs, column-start _ _ _ _)
+loop-holds c = (search needs, search needs, column-start _ _ _)
 
 mul-four-at : tie.Need-mul-four-at Inv-loop μ-loop
 mul-four-at c = search needs
@@ -29,14 +28,11 @@ add-four-at c = search needs
 four-at-requires : tie.Need-four-at-requires Inv-loop μ-loop
 four-at-requires c κs = search needs
 
-add-t10 : tie.Need-add-t10 Inv-loop μ-loop
-add-t10 c = search needs
+mul-t9 : tie.Need-mul-t9 Inv-loop μ-loop
+mul-t9 c = search needs
 
-mul-t11 : tie.Need-mul-t11 Inv-loop μ-loop
-mul-t11 c = search needs
-
-slice-set-from-row : tie.Need-slice-set-from-row Inv-loop μ-loop
-slice-set-from-row c = omega (arith, c .before .before .loop .inv, c .before .before .before .before .pre)
+slice-set-from-columns : tie.Need-slice-set-from-columns Inv-loop μ-loop
+slice-set-from-columns c = omega (arith, c .before .before .loop .inv, c .before .before .before .before .pre)
 
 add-j : tie.Need-add-j Inv-loop μ-loop
 add-j c = search needs
@@ -45,13 +41,13 @@ loop-less : tie.Need-loop-less Inv-loop μ-loop
 loop-less c = search needs
 
 loop-again : tie.Need-loop-again Inv-loop μ-loop
-loop-again c = (search needs, simp length-set (c .before .before .loop .inv .1), c .before .before .loop .inv .2 ∙ column-more _ _ _ _ _ _ (c .before .loop-test .taken) (back (c .four-at .result) (c .four-at .ok) ∙ c .four-at .ensures))
+loop-again c = (search needs, simp length-set (c .before .before .loop .inv .1), c .before .before .loop .inv .2 ∙ column-more _ _ _ _ _ (c .before .loop-test .taken) (back (c .four-at .result) (c .four-at .ok) ∙ c .four-at .ensures))
 
 same-length : tie.Need-same-length Inv-loop μ-loop
 same-length c = c .before .loop .inv .1
 
 returns : tie.Need-returns Inv-loop μ-loop
-returns c = sym (c .before .loop .inv .2 ∙ column-none _ _ _ _ _ (c .loop-test .left))
+returns c = sym (c .before .loop .inv .2 ∙ column-none _ _ _ _ (c .loop-test .left))
 
 pub copy-spec : {M : Type 1} → statement M
 copy-spec =
@@ -63,9 +59,8 @@ copy-spec =
     mul-four-at
     add-four-at
     four-at-requires
-    add-t10
-    mul-t11
-    slice-set-from-row
+    mul-t9
+    slice-set-from-columns
     add-j
     loop-less
     loop-again

@@ -59,7 +59,7 @@ signed-requires : tie.Need-signed-requires
 signed-requires c κs = search needs
 
 returns : tie.Need-returns
-returns c = back (c .signed .result) (c .signed .ok) ∙ c .signed .ensures ∙ simp (c .before .before .before .before .byte-at .ensures .is, c .before .before .before .byte-at2 .ensures .is, c .before .before .byte-at3 .ensures .is, c .before .byte-at4 .ensures .is)
+returns c = back (c .signed .result) (c .signed .ok) ∙ c .signed .ensures ∙ simp (c .before .before .before .before .byte-at .ensures, c .before .before .before .byte-at2 .ensures, c .before .before .byte-at3 .ensures, c .before .byte-at4 .ensures)
 
 pub four-at-spec : {M : Type 1} → statement M
 four-at-spec =

@@ -1,14 +1,13 @@
 use native.Mathlib.Omega.{arith}
 use mathlib.Core.Path.{_≡_, refl, sym, ap, _∙_}
 use lib.Seq.{length-take-le}
-use Rattle.frame.specs.Frame.{saidOf}
-use Rattle.frame.proofs.Frames.{read-empty, read-fed, read-unfed}
+use Rattle.frame.proofs.Frames.{empty-bad, fed-is, unfed-is, bad-read, read-as}
 use borrow.Author.Needs.{needs}
 use Rattle.frame.proofs.read.read.Statement.{statement}
 use Rattle.frame.proofs.read.read.Tie as tie
 
 returns : tie.Need-returns
-returns c = read-empty _ (c .if1 .taken)
+returns c = bad-read _ _ (empty-bad _ (c .if1 .taken))
 
 sub-n : tie.Need-sub-n
 sub-n c = search needs
@@ -23,10 +22,10 @@ read-text-requires : tie.Need-read-text-requires
 read-text-requires c κs = search needs
 
 returns-2 : tie.Need-returns-2
-returns-2 c = c .read-text .ensures ∙ ap saidOf (read-fed (c .before .before .before .before .before .before .args .line .now) _ (c .before .before .before .before .if1 .left) refl (c .before .before .if2 .taken))
+returns-2 c = read-as _ _ _ _ _ (fed-is (c .before .before .before .before .before .before .before .args .line .now) _ (c .before .before .before .before .before .if1 .left) refl (c .before .before .before .if2 .taken)) (c .read-text .ensures)
 
 returns-3 : tie.Need-returns-3
-returns-3 c = read-unfed _ _ (c .before .before .if1 .left) refl (c .if2 .left)
+returns-3 c = bad-read _ _ (unfed-is _ _ (c .before .before .if1 .left) refl (c .if2 .left))
 
 pub read-spec : {M : Type 1} → statement M
 read-spec =

@@ -1,12 +1,13 @@
-use borrow.Author.Needs.{needs}
 use native.Mathlib.Omega.{arith}
 use mathlib.Core.Path.{_≡_, refl, sym, _∙_}
 use mathlib.Core.Bool.{true≢false}
 use mathlib.Core.List.{List, _++_}
 use Prim.Native.Nat.{ℕ, _≤_, _<_, _-_}
 use lib.ListN.{length, drop}
+use Rattle.frame.specs.Frame.{textFrame}
 use Rattle.sheet.specs.Owes.{owes}
 use Rattle.sheet.proofs.Steps.{kept-owes, fed-owes, some-taken, moved-busy}
+use borrow.Author.Needs.{needs}
 use Rattle.sheet.proofs.feed.take_in.Statement.{statement}
 use Rattle.sheet.proofs.feed.take_in.Tie as tie
 
@@ -34,32 +35,35 @@ same-length-3 c = c .before .before .before .loop .inv .3 ∙ sym (c .before .be
 returns : tie.Need-returns Inv-loop μ-loop
 returns c = record { owed = c .before .before .before .loop .inv .4; within = c .before .before .before .loop .inv .0; far = (λ e. absurd (true≢false (sym (c .if1 .taken) ∙ c .before .busy .ensures ∙ e))); some = λ e h. some-taken _ _ _ (sym (c .before .busy .ensures) ∙ c .if1 .taken) (c .before .before .before .loop .inv .5) e }
 
-keep-requires : tie.Need-keep-requires Inv-loop μ-loop
-keep-requires c κs = (c .before .before .before .before .loop .inv .1, c .before .before .before .before .loop .inv .0)
+find-line-requires : tie.Need-find-line-requires Inv-loop μ-loop
+find-line-requires c κs = (c .before .before .before .before .loop .inv .1, c .before .before .before .before .loop .inv .0)
 
 same-length-4 : tie.Need-same-length-4 Inv-loop μ-loop
-same-length-4 c = c .before .before .before .keep .kept .0 ∙ c .before .before .before .before .before .before .before .before .loop .inv .1 ∙ sym (c .before .before .before .before .before .before .before .before .before .before .before .pre .0)
+same-length-4 c = c .before .before .before .before .find-line .kept .0 ∙ c .before .before .before .before .before .before .before .before .before .loop .inv .1 ∙ sym (c .before .before .before .before .before .before .before .before .before .before .before .before .pre .0)
 
 same-length-5 : tie.Need-same-length-5 Inv-loop μ-loop
-same-length-5 c = c .before .before .before .before .before .before .before .before .loop .inv .2 ∙ sym (c .before .before .before .before .before .before .before .before .before .before .before .pre .1)
+same-length-5 c = c .before .before .before .before .before .before .before .before .before .loop .inv .2 ∙ sym (c .before .before .before .before .before .before .before .before .before .before .before .before .pre .1)
 
 same-length-6 : tie.Need-same-length-6 Inv-loop μ-loop
-same-length-6 c = c .before .before .before .before .before .before .before .before .loop .inv .3 ∙ sym (c .before .before .before .before .before .before .before .before .before .before .before .pre .2)
+same-length-6 c = c .before .before .before .before .before .before .before .before .before .loop .inv .3 ∙ sym (c .before .before .before .before .before .before .before .before .before .before .before .before .pre .2)
 
 returns-2 : tie.Need-returns-2 Inv-loop μ-loop
-returns-2 c = record { owed = kept-owes _ _ _ _ _ _ _ (c .before .before .before .before .before .before .before .before .loop .inv .4) (sym (c .before .before .before .before .before .before .busy .ensures) ∙ c .before .before .before .before .before .if1 .left) _ _ _ (c .before .before .before .keep .ensures); within = c .before .before .before .keep .ensures .within; far = (λ e. omega (arith, c .if2 .taken, c .before .before .before .keep .ensures .within)); some = λ e h. omega (arith, c .if2 .taken, h) }
+returns-2 c = record { owed = kept-owes _ _ _ _ _ _ _ (c .before .before .before .before .before .before .before .before .before .loop .inv .4) (sym (c .before .before .before .before .before .before .before .busy .ensures) ∙ c .before .before .before .before .before .before .if1 .left) _ _ _ (c .before .before .before .before .find-line .ensures) (c .if2 .taken); within = c .before .before .before .before .find-line .ensures .within; far = (λ e. omega (arith, c .if2 .taken, c .before .before .before .before .find-line .ensures .within)); some = λ e h. omega (arith, c .if2 .taken, h) }
 
-on-line-requires : tie.Need-on-line-requires Inv-loop μ-loop
-on-line-requires c κs = (c .before .before .before .before .before .before .before .before .before .before .before .loop .inv .2, c .before .before .before .before .before .before .before .before .before .before .before .loop .inv .3)
+text-of-requires : tie.Need-text-of-requires Inv-loop μ-loop
+text-of-requires c κs = (c .before .before .before .before .before .find-line .ensures .ahead, c .before .before .before .before .before .find-line .ensures .within)
+
+on-text-requires : tie.Need-on-text-requires Inv-loop μ-loop
+on-text-requires c κs = (c .before .before .before .before .before .before .before .before .before .before .before .before .before .loop .inv .2, c .before .before .before .before .before .before .before .before .before .before .before .before .before .loop .inv .3)
 
 add-i : tie.Need-add-i Inv-loop μ-loop
-add-i c = omega (arith, c .before .before .before .before .before .before .if2 .left, c .before .before .before .before .before .before .before .before .before .before .before .before .before .before .before .before .before .good)
+add-i c = omega (arith, c .before .before .before .before .before .before .before .before .if2 .left, c .before .before .before .before .before .before .before .before .before .before .before .before .before .before .before .before .before .before .before .before .good)
 
 loop-less : tie.Need-loop-less Inv-loop μ-loop
-loop-less c = omega (arith, c .before .before .before .before .before .before .if2 .left, c .before .before .before .before .before .before .before .before .before .keep .ensures .ahead, c .before .before .before .before .before .before .before .before .before .before .before .before .before .loop-test .taken)
+loop-less c = omega (arith, c .before .before .before .before .before .before .before .before .if2 .left, c .before .before .before .before .before .before .before .before .before .before .before .before .find-line .ensures .ahead, c .before .before .before .before .before .before .before .before .before .before .before .before .before .before .before .before .loop-test .taken)
 
 loop-again : tie.Need-loop-again Inv-loop μ-loop
-loop-again c = (omega (arith, c .before .before .before .before .before .before .if2 .left), c .before .before .before .before .before .before .before .before .before .keep .kept .0 ∙ c .before .before .before .before .before .before .before .before .before .before .before .before .before .before .loop .inv .1, c .before .before .on-line .kept .1 .0 ∙ c .before .before .before .before .before .before .before .before .before .before .before .before .before .before .loop .inv .2, c .before .before .on-line .kept .1 .1 .0 ∙ c .before .before .before .before .before .before .before .before .before .before .before .before .before .before .loop .inv .3, fed-owes _ _ _ _ _ _ _ (c .before .before .before .before .before .before .before .before .before .before .before .before .before .before .loop .inv .4) (sym (c .before .before .before .before .before .before .before .before .before .before .before .before .busy .ensures) ∙ c .before .before .before .before .before .before .before .before .before .before .before .if1 .left) _ _ _ (c .before .before .before .before .before .before .before .before .before .keep .ensures) _ _ _ (c .before .before .before .before .before .before .if2 .left) (c .before .before .on-line .ensures), λ z. absurd (omega arith))
+loop-again c = (omega (arith, c .before .before .before .before .before .before .before .before .if2 .left), c .before .before .before .before .before .before .before .before .before .before .before .before .find-line .kept .0 ∙ c .before .before .before .before .before .before .before .before .before .before .before .before .before .before .before .before .before .loop .inv .1, c .before .before .before .on-text .kept .1 .0 ∙ c .before .before .before .before .before .before .before .before .before .before .before .before .before .before .before .before .before .loop .inv .2, c .before .before .before .on-text .kept .1 .1 .0 ∙ c .before .before .before .before .before .before .before .before .before .before .before .before .before .before .before .before .before .loop .inv .3, fed-owes _ _ _ _ _ _ _ (c .before .before .before .before .before .before .before .before .before .before .before .before .before .before .before .before .before .loop .inv .4) (sym (c .before .before .before .before .before .before .before .before .before .before .before .before .before .before .before .busy .ensures) ∙ c .before .before .before .before .before .before .before .before .before .before .before .before .before .before .if1 .left) _ _ _ (c .before .before .before .before .before .before .before .before .before .before .before .before .find-line .ensures) _ _ _ (c .before .before .before .before .before .before .before .before .if2 .left) (rw (c .before .before .before .before .before .before .text-of .ensures) at (c .before .before .before .on-text .ensures)), λ z. absurd (omega arith))
 
 same-length-7 : tie.Need-same-length-7 Inv-loop μ-loop
 same-length-7 c = c .before .loop .inv .1 ∙ sym (c .before .before .before .before .pre .0)
@@ -85,12 +89,13 @@ take-in-spec =
     same-length-2
     same-length-3
     returns
-    keep-requires
+    find-line-requires
     same-length-4
     same-length-5
     same-length-6
     returns-2
-    on-line-requires
+    text-of-requires
+    on-text-requires
     add-i
     loop-less
     loop-again

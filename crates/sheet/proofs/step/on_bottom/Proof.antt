@@ -8,13 +8,13 @@ use Rattle.sheet.proofs.step.on_bottom.Statement.{statement}
 use Rattle.sheet.proofs.step.on_bottom.Tie as tie
 
 sub-if2 : tie.Need-sub-if2
-sub-if2 c = held (c .before .before .before .before .before .args .s) (c .before .before .before .before .before .pre) .bottom
+sub-if2 c = held (c .before .before .before .before .args .s) (c .before .before .before .before .pre .0) .bottom
 
-columns-requires : tie.Need-columns-requires
-columns-requires c κs = search needs
+put-requires : tie.Need-put-requires
+put-requires c κs = let k = held (c .before .before .before .before .before .before .before .args .s) (c .before .before .before .before .before .before .before .pre .0) in (omega (arith, c .before .before .before .before .before .before .before .pre .1), omega (arith, k .bottom, k .few, c .before .before .if2 .taken, c .before .before .before .before .before .before .before .pre .2))
 
 add-quiet : tie.Need-add-quiet
-add-quiet c = let k = held (c .before .before .before .before .before .before .before .before .before .args .s) (c .before .before .before .before .before .before .before .before .before .pre) in omega (arith, k .bottom, k .few, c .before .before .before .if2 .taken)
+add-quiet c = let k = held (c .before .before .before .before .before .before .before .before .before .args .s) (c .before .before .before .before .before .before .before .before .before .pre .0) in omega (arith, k .bottom, k .few, c .before .before .before .before .if2 .taken)
 
 quiet-requires : tie.Need-quiet-requires
 quiet-requires c κs = search needs
@@ -24,7 +24,7 @@ same-length c = search needs
 
 returns : tie.Need-returns
 unfolding bottomTo
-returns c = record { is = c .quiet .ensures ∙ sym (simp (eq-eqb _ _ (c .before .before .before .before .before .before .if1 .taken), le-leb _ _ (c .before .before .before .before .if2 .taken))); put = λ e f. c .before .before .columns .ensures }
+returns c = record { is = c .quiet .ensures ∙ sym (simp (eq-eqb _ _ (c .before .before .before .before .before .before .before .if1 .taken), le-leb _ _ (c .before .before .before .before .before .if2 .taken))); put = λ e f. c .before .before .put .ensures }
 
 refuse-requires : tie.Need-refuse-requires
 refuse-requires c κs = search needs
@@ -45,7 +45,7 @@ on-bottom-spec =
     tie.close
     (tie.spec
     sub-if2
-    columns-requires
+    put-requires
     add-quiet
     quiet-requires
     same-length

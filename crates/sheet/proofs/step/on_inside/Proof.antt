@@ -1,8 +1,5 @@
-use native.Mathlib.Omega.{arith}
-use mathlib.Core.Path.{sym, _∙_}
-use Rattle.frame.specs.Frame.{textFrame}
-use Rattle.frame.proofs.Frames.{carried}
-use Rattle.sheet.proofs.Steps.{said-bad, said-header, said-bottom, said-top}
+use mathlib.Core.Path.{refl, sym, ap, _∙_}
+use Rattle.sheet.proofs.Steps.{said-bad, said-header, said-bottom, said-top, carried-in, few-bottom, few-top}
 use borrow.Author.Needs.{needs}
 use Rattle.sheet.proofs.step.on_inside.Statement.{statement}
 use Rattle.sheet.proofs.step.on_inside.Tie as tie
@@ -29,25 +26,25 @@ enum-known-l : tie.Need-enum-known-l
 enum-known-l c = search needs
 
 on-bottom-requires : tie.Need-on-bottom-requires
-on-bottom-requires c κs = search needs
+on-bottom-requires c κs = (c .before .before .before .before .before .before .before .before .pre .0, few-bottom (c .before .before .before .before .before .before .before .before .args .text .now) _ _ (sym (c .before .before .before .before .before .read-text .ensures .said) ∙ c .before .before .before .l .given .1), c .before .before .before .before .before .before .before .before .pre .2)
 
 enum-known-l-2 : tie.Need-enum-known-l-2
 enum-known-l-2 c = search needs
 
 on-top-requires : tie.Need-on-top-requires
-on-top-requires c κs = search needs
+on-top-requires c κs = (c .before .before .before .before .before .before .before .before .before .pre .0, few-top (c .before .before .before .before .before .before .before .before .before .args .text .now) _ _ (sym (c .before .before .before .before .before .before .read-text .ensures .said) ∙ c .before .before .before .before .l2 .given .1), c .before .before .before .before .before .before .before .before .before .pre .2, c .before .before .before .before .before .before .before .before .before .pre .3)
 
 returns : tie.Need-returns
-returns c = said-bad (c .before .before .before .before .before .args .s) _ _ (c .before .before .before .before .before .pre .1) (c .before .before .before .before .before .pre .0) _ _ (sym (c .before .before .before .read-text .ensures) ∙ c .before .enum-told .given .1) (c .refuse .ensures)
+returns c = said-bad (c .before .before .before .before .before .before .args .s) _ _ (c .before .before .before .before .before .before .pre .1) (c .before .before .before .before .before .before .pre .0) _ _ (sym (c .before .before .before .read-text .ensures .said) ∙ c .before .enum-told .given .1) (c .refuse .ensures)
 
 returns-2 : tie.Need-returns-2
-returns-2 c = said-header (c .before .before .before .before .before .before .before .args .s) _ _ (c .before .before .before .before .before .before .before .pre .1) (c .before .before .before .before .before .before .before .pre .0) _ _ _ (sym (c .before .before .before .before .before .read-text .ensures) ∙ c .before .before .before .o .given .1) (rw (c .before .head .ensures) at (c .cut-off .ensures))
+returns-2 c = said-header (c .before .before .before .before .before .before .before .before .args .s) _ _ (c .before .before .before .before .before .before .before .before .pre .1) (c .before .before .before .before .before .before .before .before .pre .0) _ _ _ (sym (c .before .before .before .before .before .read-text .ensures .said) ∙ c .before .before .before .o .given .1) (rw (c .before .head .ensures) at (c .cut-off .ensures))
 
 same-length : tie.Need-same-length
 same-length c = search needs
 
 returns-3 : tie.Need-returns-3
-returns-3 c = said-bottom (c .before .before .before .before .before .before .before .before .args .s) _ _ (c .before .before .before .before .before .before .before .before .pre .1) (c .before .before .before .before .before .before .before .before .pre .0) (c .before .before .before .before .before .before .before .before .args .text .now) (c .before .before .before .before .before .before .before .before .pre .2) (c .before .before .before .before .before .before .before .before .pre .3) _ (carried (c .before .before .before .before .before .before .before .before .args .text .now)) _ _ _ _ (sym (c .before .before .before .before .before .before .read-text .ensures) ∙ c .before .before .before .before .l .given .1) (c .before .on-bottom .ensures)
+returns-3 c = said-bottom (c .before .before .before .before .before .before .before .before .before .before .args .s) _ _ (c .before .before .before .before .before .before .before .before .before .before .pre .1) (c .before .before .before .before .before .before .before .before .before .before .pre .0) _ (c .before .before .before .before .before .before .before .before .before .before .pre .2) (c .before .before .before .before .before .before .before .before .before .before .pre .3) _ (carried-in (c .before .before .before .before .before .before .before .before .before .before .args .text .now) _ _ _ refl (c .before .before .before .before .before .before .before .read-text .ensures)) _ _ _ _ (sym (c .before .before .before .before .before .before .before .read-text .ensures .said) ∙ c .before .before .before .before .before .l .given .1) (c .before .on-bottom .ensures)
 
 same-length-2 : tie.Need-same-length-2
 same-length-2 c = search needs
@@ -56,7 +53,7 @@ same-length-3 : tie.Need-same-length-3
 same-length-3 c = search needs
 
 returns-4 : tie.Need-returns-4
-returns-4 c = said-top (c .before .before .before .before .before .before .before .before .before .args .s) _ _ (c .before .before .before .before .before .before .before .before .before .pre .1) (c .before .before .before .before .before .before .before .before .before .pre .0) (c .before .before .before .before .before .before .before .before .before .args .text .now) (c .before .before .before .before .before .before .before .before .before .pre .2) (c .before .before .before .before .before .before .before .before .before .pre .3) _ (carried (c .before .before .before .before .before .before .before .before .before .args .text .now)) _ _ _ _ (sym (c .before .before .before .before .before .before .before .read-text .ensures) ∙ c .before .before .before .before .before .l2 .given .1) (c .before .on-top .ensures)
+returns-4 c = said-top (c .before .before .before .before .before .before .before .before .before .before .before .args .s) _ _ (c .before .before .before .before .before .before .before .before .before .before .before .pre .1) (c .before .before .before .before .before .before .before .before .before .before .before .pre .0) _ (c .before .before .before .before .before .before .before .before .before .before .before .pre .2) (c .before .before .before .before .before .before .before .before .before .before .before .pre .3) _ (carried-in (c .before .before .before .before .before .before .before .before .before .before .before .args .text .now) _ _ _ refl (c .before .before .before .before .before .before .before .before .read-text .ensures)) _ _ _ _ (sym (c .before .before .before .before .before .before .before .before .read-text .ensures .said) ∙ c .before .before .before .before .before .before .l2 .given .1) (c .before .on-top .ensures)
 
 pub on-inside-spec : {M : Type 1} → statement M
 on-inside-spec =

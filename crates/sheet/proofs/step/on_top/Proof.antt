@@ -8,21 +8,22 @@ use Rattle.jumper.specs.declared.refusal.Numbers.{Numbers}
 use Rattle.sheet.specs.Planned.{planned, PlanTold}
 use Rattle.sheet.specs.Steps.{complete, topTo}
 use Rattle.sheet.proofs.Steps.{held}
+use Rattle.sheet.proofs.step.on_top.Tie as tie
 use borrow.Author.Needs.{needs}
 use Rattle.sheet.proofs.step.on_top.Statement.{statement}
 use Rattle.sheet.proofs.step.on_top.Tie as tie
 
 sub-if3 : tie.Need-sub-if3
-sub-if3 c = held (c .before .before .before .before .before .before .before .args .s) (c .before .before .before .before .before .before .before .pre .0) .top
+sub-if3 c = held (c .before .before .before .before .before .before .args .s) (c .before .before .before .before .before .before .pre .0) .top
 
-columns-requires : tie.Need-columns-requires
-columns-requires c κs = search needs
+put-requires : tie.Need-put-requires
+put-requires c κs = let k = held (c .before .before .before .before .before .before .before .before .before .args .s) (c .before .before .before .before .before .before .before .before .before .pre .0) in (omega (arith, c .before .before .before .before .before .before .before .before .before .pre .1), omega (arith, k .top, k .few, c .before .before .if3 .taken, c .before .before .before .before .before .before .before .before .before .pre .3))
 
 add-if4 : tie.Need-add-if4
-add-if4 c = let k = held (c .before .before .before .before .before .before .before .before .before .before .before .args .s) (c .before .before .before .before .before .before .before .before .before .before .before .pre .0) in omega (arith, k .top, k .few, c .before .before .before .if3 .taken)
+add-if4 c = let k = held (c .before .before .before .before .before .before .before .before .before .before .before .args .s) (c .before .before .before .before .before .before .before .before .before .before .before .pre .0) in omega (arith, k .top, k .few, c .before .before .before .before .if3 .taken)
 
 plan-first-requires : tie.Need-plan-first-requires
-plan-first-requires c κs = let k = held (c .before .before .before .before .before .before .before .before .before .before .before .before .before .before .before .args .s) (c .before .before .before .before .before .before .before .before .before .before .before .before .before .before .before .pre .0) in omega (arith, k .few, c .before .before .before .before .before .before .before .before .before .before .before .before .before .before .before .pre .1, c .before .before .before .before .before .before .before .before .before .before .before .before .before .before .before .pre .2, c .before .before .before .before .before .columns .kept .1 .1 .0)
+plan-first-requires c κs = let k = held (c .before .before .before .before .before .before .before .before .before .before .before .before .before .before .before .args .s) (c .before .before .before .before .before .before .before .before .before .before .before .before .before .before .before .pre .0) in omega (arith, k .few, c .before .before .before .before .before .before .before .before .before .before .before .before .before .before .before .pre .2, c .before .before .before .before .before .before .before .before .before .before .before .before .before .before .before .pre .3, c .before .before .before .before .before .put .kept .1 .1 .0)
 
 done-requires : tie.Need-done-requires
 done-requires c κs = search needs
@@ -35,17 +36,17 @@ unfolding topTo
 returns c =
     let o = c .before .before .before .before .before .before .before .before .before .before .before .before .before .before .before .before .before .args .s .order in
     let e = toZ-ofZ w32 (o .offset) (record { sfits = c .before .before .struct-told .given .1 .1 .1 .0 .1 }) in
-    let told : PlanTold (o .separation) (o .offset) (take (o .pairs) (c .before .before .before .before .before .before .before .before .before .before .before .before .before .before .before .before .before .args .a .now)) (take (o .pairs) (c .before .before .before .before .before .before .before .columns .last .1 .1 .0)) (c .before .plan-first .result) = rw e at (c .before .plan-first .ensures) in
+    let told : PlanTold (o .separation) (o .offset) (take (o .pairs) (c .before .before .before .before .before .before .before .before .before .before .before .before .before .before .before .before .before .args .a .now)) (take (o .pairs) (c .before .before .before .before .before .before .before .put .last .1 .1 .0)) (c .before .plan-first .result) = rw e at (c .before .plan-first .ensures) in
     record {
       is =
           c .done .ensures ∙ ap (complete (c .before .before .before .before .before .before .before .before .before .before .before .before .before .before .before .before .before .args .s)) (told .is)
-          ∙ sym (simp (eq-eqb _ _ (c .before .before .before .before .before .before .before .before .before .before .before .before .before .if1 .taken), eq-eqb _ _ (c .before .before .before .before .before .before .before .before .before .before .before .if2 .taken), le-leb _ _ (c .before .before .before .before .before .before .before .before .before .if3 .taken), eq-eqb _ _ (c .before .before .before .before .if4 .taken)));
-      put = λ x y z. c .before .before .before .before .before .before .before .columns .ensures;
-      asked = λ x y z w. subst (PlanTold (o .separation) (o .offset) (take (o .pairs) (c .before .before .before .before .before .before .before .before .before .before .before .before .before .before .before .before .before .args .a .now)) (take (o .pairs) (c .before .before .before .before .before .before .before .columns .last .1 .1 .0))) (told .is) told;
+          ∙ sym (simp (eq-eqb _ _ (c .before .before .before .before .before .before .before .before .before .before .before .before .before .before .if1 .taken), eq-eqb _ _ (c .before .before .before .before .before .before .before .before .before .before .before .before .if2 .taken), le-leb _ _ (c .before .before .before .before .before .before .before .before .before .before .if3 .taken), eq-eqb _ _ (c .before .before .before .before .if4 .taken)));
+      put = λ x y z. c .before .before .before .before .before .before .before .put .ensures;
+      asked = λ x y z w. subst (PlanTold (o .separation) (o .offset) (take (o .pairs) (c .before .before .before .before .before .before .before .before .before .before .before .before .before .before .before .before .before .args .a .now)) (take (o .pairs) (c .before .before .before .before .before .before .before .put .last .1 .1 .0))) (told .is) told;
     }
 
 add-quiet : tie.Need-add-quiet
-add-quiet c = let k = held (c .before .before .before .before .before .before .before .before .before .before .before .before .before .args .s) (c .before .before .before .before .before .before .before .before .before .before .before .before .before .pre .0) in omega (arith, k .top, k .few, c .before .before .before .before .before .if3 .taken)
+add-quiet c = let k = held (c .before .before .before .before .before .before .before .before .before .before .before .before .before .args .s) (c .before .before .before .before .before .before .before .before .before .before .before .before .before .pre .0) in omega (arith, k .top, k .few, c .before .before .before .before .before .before .if3 .taken)
 
 quiet-requires : tie.Need-quiet-requires
 quiet-requires c κs = search needs
@@ -55,7 +56,7 @@ same-length-2 c = search needs
 
 returns-2 : tie.Need-returns-2
 unfolding topTo
-returns-2 c = record { is = c .quiet .ensures ∙ sym (simp (eq-eqb _ _ (c .before .before .before .before .before .before .before .before .before .before .if1 .taken), eq-eqb _ _ (c .before .before .before .before .before .before .before .before .if2 .taken), le-leb _ _ (c .before .before .before .before .before .before .if3 .taken), ne-eqb _ _ (c .before .if4 .left))); put = (λ x y z. c .before .before .before .before .columns .ensures); asked = λ x y z w. absurd (c .before .if4 .left w) }
+returns-2 c = record { is = c .quiet .ensures ∙ sym (simp (eq-eqb _ _ (c .before .before .before .before .before .before .before .before .before .before .before .if1 .taken), eq-eqb _ _ (c .before .before .before .before .before .before .before .before .before .if2 .taken), le-leb _ _ (c .before .before .before .before .before .before .before .if3 .taken), ne-eqb _ _ (c .before .if4 .left))); put = (λ x y z. c .before .before .before .before .put .ensures); asked = λ x y z w. absurd (c .before .if4 .left w) }
 
 refuse-requires : tie.Need-refuse-requires
 refuse-requires c κs = search needs
@@ -83,7 +84,7 @@ on-top-spec =
     tie.close
     (tie.spec
     sub-if3
-    columns-requires
+    put-requires
     add-if4
     plan-first-requires
     done-requires

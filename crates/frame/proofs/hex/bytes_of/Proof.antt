@@ -1,0 +1,83 @@
+use native.Mathlib.Omega.{arith}
+use mathlib.Core.Path.{_≡_, refl, _∙_}
+use mathlib.Core.List.{_++_}
+use Prim.Native.Nat.{_+_, _*_, _-_, _%_, _<_, _≤_}
+use lib.ListN.{length, take, length-set}
+use Rattle.frame.specs.Hex.{total, bytesFrom}
+use Rattle.frame.proofs.Scan.{lay-start, lay-more, lay-end, sum-start, sum-more, sum-end}
+use borrow.Author.Needs.{needs}
+use Rattle.frame.proofs.hex.bytes_of.Statement.{statement}
+use Rattle.frame.proofs.hex.bytes_of.Tie as tie
+
+abbrev Inv-loop : tie.InvT-loop
+Inv-loop worths n bytes₀ sum₀ i₀ bytes sum i = (i ≤ n) × (length bytes ≡ length bytes₀) × (sum < 256) × (take i bytes ++ bytesFrom worths i (n - i) ≡ bytesFrom worths 0 n) × ((sum + total (bytesFrom worths i (n - i))) % 256 ≡ total (bytesFrom worths 0 n) % 256)
+
+abbrev μ-loop : tie.MeasureT-loop
+μ-loop worths n bytes₀ sum₀ i₀ bytes sum i = n - i
+
+loop-holds : tie.Need-loop-holds Inv-loop μ-loop
+loop-holds c = (omega arith, refl, omega arith, lay-start (c .before .before .args .worths .now) (c .before .before .args .bytes .now) (c .before .before .args .n), sum-start (c .before .before .args .worths .now) (c .before .before .args .n))
+
+mul-b : tie.Need-mul-b Inv-loop μ-loop
+mul-b c = search needs
+
+shared-slice-read-b : tie.Need-shared-slice-read-b Inv-loop μ-loop
+shared-slice-read-b c = search needs
+
+mul-b-2 : tie.Need-mul-b-2 Inv-loop μ-loop
+mul-b-2 c = let h = c .before .before .before .before .before .pre .2 (2 * c .before .before .loop .i) (omega (arith, c .before .loop-test .taken)) in omega arith
+
+mul-b-3 : tie.Need-mul-b-3 Inv-loop μ-loop
+mul-b-3 c = search needs
+
+add-b : tie.Need-add-b Inv-loop μ-loop
+add-b c = search needs
+
+shared-slice-read-b-2 : tie.Need-shared-slice-read-b-2 Inv-loop μ-loop
+shared-slice-read-b-2 c = search needs
+
+add-b-2 : tie.Need-add-b-2 Inv-loop μ-loop
+add-b-2 c = let h = c .before .before .before .before .before .before .pre .2 (2 * c .before .before .before .loop .i) (omega (arith, c .before .before .loop-test .taken)) in let g = c .before .before .before .before .before .before .pre .2 (2 * c .before .before .before .loop .i + 1) (omega (arith, c .before .before .loop-test .taken)) in omega arith
+
+slice-write-bytes : tie.Need-slice-write-bytes Inv-loop μ-loop
+slice-write-bytes c = omega (arith, c .before .before .before .loop .inv .1, c .before .before .loop-test .taken, c .before .before .before .before .before .before .pre .1)
+
+wrapping-add-u8-requires : tie.Need-wrapping-add-u8-requires Inv-loop μ-loop
+wrapping-add-u8-requires c κs = search needs
+
+add-i : tie.Need-add-i Inv-loop μ-loop
+add-i c = search needs
+
+loop-less : tie.Need-loop-less Inv-loop μ-loop
+loop-less c = search needs
+
+loop-again : tie.Need-loop-again Inv-loop μ-loop
+loop-again c = (omega (arith, c .before .before .before .loop-test .taken), simp length-set (c .before .before .before .before .loop .inv .1), omega (arith, c .wrapping-add-u8 .ensures), lay-more _ _ _ _ _ _ (c .before .before .before .loop-test .taken) (omega (arith, c .before .before .before .before .loop .inv .1, c .before .before .before .loop-test .taken, c .before .before .before .before .before .before .before .pre .1)) refl (c .before .before .before .before .loop .inv .3), sum-more _ _ _ _ _ _ _ (c .before .before .before .loop-test .taken) refl (c .wrapping-add-u8 .ensures) (c .before .before .before .before .loop .inv .4))
+
+same-length : tie.Need-same-length Inv-loop μ-loop
+same-length c = c .before .loop .inv .1
+
+returns : tie.Need-returns Inv-loop μ-loop
+returns c = record { laid = lay-end _ _ _ _ _ (c .before .loop .inv .0) (c .loop-test .left) (c .before .loop .inv .3); sum = sum-end _ _ _ _ _ (c .loop-test .left) (c .before .loop .inv .2) (c .before .loop .inv .4) }
+
+pub bytes-of-spec : {M : Type 1} → statement M
+bytes-of-spec =
+    tie.close
+    (tie.spec
+    Inv-loop
+    μ-loop
+    loop-holds
+    mul-b
+    shared-slice-read-b
+    mul-b-2
+    mul-b-3
+    add-b
+    shared-slice-read-b-2
+    add-b-2
+    slice-write-bytes
+    wrapping-add-u8-requires
+    add-i
+    loop-less
+    loop-again
+    same-length
+    returns)
