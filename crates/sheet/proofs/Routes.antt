@@ -22,7 +22,8 @@ use Rattle.frame.specs.Written.{moveLine}
 use Rattle.frame.specs.Puts.{puts, LinePut}
 use Rattle.frame.proofs.Puts.{take-puts, answer-length, move-length}
 use Rattle.frame.specs.declared.write.Move.{Move}
-use Rattle.sheet.specs.Route.{differ, moveText, trackText, wireText, wiresText}
+use Rattle.whole.specs.Pick.{differ}
+use Rattle.sheet.specs.Route.{moveText, trackText, wireText, wiresText}
 use Rattle.sheet.specs.Owes.{routeLeft}
 use Rattle.sheet.specs.Parts.{RouteOut, WireOut, TrackOut}
 use Rattle.sheet.proofs.Lines.{either}
