@@ -1,4 +1,7 @@
 // Answers a sheet: standard input to standard output. What answers which bytes is all in `sheet`; here they are only read and written.
+ghost use Prim.Native.Nat.{_≤_};
+ghost use lib.ListN.{length};
+use jumper::limits::MAX_PAIRS;
 use sheet::feed::feed;
 use sheet::feed::finish;
 use sheet::give::give;
@@ -15,11 +18,11 @@ struct Stage {
 }
 
 // The first n bytes of the output buffer, sent. An error is told.
-fn send(out: &[u8], n: usize) -> bool {
-    if n <= out.len() {
-        if io::write_all(1, &out[..n]) {
-            return true;
-        }
+fn send(out: &[u8], n: usize) -> bool
+    requires { ⌜ n ≤ length (now out) ⌝ }
+{
+    if io::write_all(1, &out[..n]) {
+        return true;
     }
     io::write_all(2, b"answersheet: standard output can't be written\n");
     false
@@ -29,12 +32,15 @@ fn send(out: &[u8], n: usize) -> bool {
 fn pump(
     piece: &[u8],
     line: &mut [u8; 160],
-    a: &mut [i32; 2048],
-    b: &mut [i32; 2048],
-    out: &mut [u8; 131072],
+    a: &mut [i32; MAX_PAIRS],
+    b: &mut [i32; MAX_PAIRS],
+    out: &mut [u8],
     s: State,
     n: usize,
-) -> Stage {
+) -> Stage
+    requires { ⌜ n ≤ length (now out) ⌝ }
+    ensures { λ r. ⌜ r .n ≤ length (now (out .entry)) ⌝ }
+{
     let mut st = s;
     let mut at = n;
     let mut well = true;
@@ -60,7 +66,9 @@ fn pump(
 }
 
 // All that is still to write, sent.
-fn drain(a: &[i32; 2048], b: &[i32; 2048], out: &mut [u8; 131072], s: State, n: usize) -> Stage {
+fn drain(a: &[i32; MAX_PAIRS], b: &[i32; MAX_PAIRS], out: &mut [u8], s: State, n: usize) -> Stage
+    requires { ⌜ n ≤ length (now out) ⌝ }
+{
     let mut st = s;
     let mut at = n;
     let mut well = true;
@@ -83,18 +91,22 @@ fn drain(a: &[i32; 2048], b: &[i32; 2048], out: &mut [u8; 131072], s: State, n: 
     }
 }
 
-// One read, and what it brought.
+// One read, and what it brought. Where nothing can be read any more, what is answered already is sent before that is told.
 fn turn(
     line: &mut [u8; 160],
-    a: &mut [i32; 2048],
-    b: &mut [i32; 2048],
-    out: &mut [u8; 131072],
+    a: &mut [i32; MAX_PAIRS],
+    b: &mut [i32; MAX_PAIRS],
+    out: &mut [u8],
     s: State,
     n: usize,
-) -> Stage {
+) -> Stage
+    requires { ⌜ n ≤ length (now out) ⌝ }
+    ensures { λ r. ⌜ r .n ≤ length (now (out .entry)) ⌝ }
+{
     let mut piece = io::large_buffer();
     let got = libc::read(0, &mut piece);
     if got < 0 {
+        send(out, n);
         io::write_all(2, b"answersheet: standard input can't be read\n");
         return Stage {
             s,
@@ -116,7 +128,7 @@ fn turn(
 }
 
 // The whole sheet. After an error that was told nothing more is answered.
-fn run(line: &mut [u8; 160], a: &mut [i32; 2048], b: &mut [i32; 2048], out: &mut [u8; 131072]) {
+fn run(line: &mut [u8; 160], a: &mut [i32; MAX_PAIRS], b: &mut [i32; MAX_PAIRS], out: &mut [u8]) {
     let mut st = fresh();
     let mut at: usize = 0;
     let mut turns = u64::MAX;
@@ -141,8 +153,8 @@ fn run(line: &mut [u8; 160], a: &mut [i32; 2048], b: &mut [i32; 2048], out: &mut
 
 fn main() {
     let mut line = [0u8; 160];
-    let mut a = [0i32; 2048];
-    let mut b = [0i32; 2048];
+    let mut a = [0i32; MAX_PAIRS];
+    let mut b = [0i32; MAX_PAIRS];
     let mut out = [0u8; 131072];
     run(&mut line, &mut a, &mut b, &mut out);
 }

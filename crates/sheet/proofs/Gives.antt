@@ -42,6 +42,12 @@ module _ (k : Answer) (out : List ℕ) (at p : ℕ) (out' : List ℕ) (put : Lin
       ap (λ (z : ℕ). take z out') (g .0) ∙ ap (take (at + length (answerLine k))) (g .1) ∙ take-puts out at (answerLine k) room)
       (λ q. absurd (n (put .full (leb-false _ _ q) .0)))
 
+  answer-fits : at ≤ length out → p ≤ length out
+  answer-fits h =
+      either (leb (at + length (answerLine k)) (length out))
+      (λ q. let room = leb-true _ _ q in let g = put .room room in omega (arith, g .0))
+      (λ q. let g = put .full (leb-false _ _ q) in omega (arith, g .0))
+
   answer-full : p ≡ at → (out' ≡ out) × (length out < at + 35)
   answer-full e =
       let l = answer-length k in
@@ -59,7 +65,7 @@ unfolding later modeOf isHeld
 changed-later s cut due i t line a b rest = refl
 
 given-same : (s : State) (out : List ℕ) (at : ℕ) → GivenOn s out at s at out
-given-same s out at = record { gave = λ a b. refl; same = λ line a b rest. refl }
+given-same s out at = record { gave = (λ a b. refl); fits = (λ h. h); same = λ line a b rest. refl }
 
 -- ---- the 20 of a line that was cut off
 
@@ -83,6 +89,7 @@ module _ (s : State) (out : List ℕ) (at : ℕ) where
               simp c
               (sym (append-assoc (take at out) (answerLine (shown (s .former) (refusalNumbers Sequence))) (dueText s ++ leftText s a b))
               ∙ ap (λ (z : List ℕ). z ++ (dueText s ++ leftText s a b)) (sym w));
+          fits = answer-fits k out at p out' put;
           same = λ line a b rest. changed-later s false (s .due) (s .wire) (s .track) line a b rest;
         };
         far = λ h. absurd (true≢false (sym h));
@@ -109,6 +116,7 @@ module _ (s : State) (out : List ℕ) (at : ℕ) where
               simp (c, d)
               (sym (append-assoc (take at out) (answerLine (s .answer)) (leftText s a b))
               ∙ ap (λ (z : List ℕ). z ++ leftText s a b) (sym w));
+          fits = answer-fits (s .answer) out at p out' put;
           same = λ line a b rest. changed-later s (s .cut) false (s .wire) (s .track) line a b rest;
         };
         quiet = c;
@@ -125,6 +133,7 @@ module _ (s : State) (a b : List ℤ) (out : List ℕ) (at : ℕ) (c : s .cut �
   route-given i t p out' g =
       record {
         gave = simp (c, d, le-leb _ _ few) (g .gave);
+        fits = g .fits;
         same = λ line rest. changed-later s (s .cut) (s .due) i t line a b rest;
         far = λ h. let n : length (take (s .wires) a) ≡ s .wires = length-take-le (s .wires) a fa in
             let w : i < s .wires = ltb-true i (s .wires) (simp (c, d, le-leb _ _ few) at h) in g .far (omega arith);
@@ -135,24 +144,24 @@ module _ (l s : ℕ) (d : ℤ) (a b : List ℤ) (i t : ℕ) (out : List ℕ) (fr
   pub asked-route : (i' t' to : ℕ) (out' : List ℕ) → q ≡ Accepted → RouteOut l s d a b i t out from i' t' to out' → AskedOut l s d a b i t out from i' t' to out'
   asked-route i' t' to out' z r =
       let y : isAsked a b s d ≡ true = eq-eqb _ _ (number-of (checkAsked a b s d) (sym e ∙ z)) in
-      record { gave = simp y (r .gave); far = r .far }
+      record { gave = simp y (r .gave); fits = r .fits; far = r .far }
 
   pub unasked-route : (f : Refusal) → q ≡ Refused f → AskedOut l s d a b i t out from (length a) 0 from out
   unasked-route f z =
       let w : checkedNumbers (checkAsked a b s d) ≡ refusalNumbers f = ap checkedNumbers (sym e ∙ z) in
       let y : isAsked a b s d ≡ false = ne-eqb _ _ (λ h. numbered f (ap (λ (k : Numbers). k .refusal) (sym w) ∙ h)) in
-      record { gave = simp y; far = λ h. absurd (omega arith) }
+      record { gave = simp y; fits = (λ h. h); far = λ h. absurd (omega arith) }
 
 -- ---- one after the other
 
 pub given-on : {s r t : State} {a b : List ℤ} {out out' out'' : List ℕ} {at p q : ℕ} → GivenOn s out at r p out' → length out' ≡ length out → Given r a b out' p t q out'' → Given s a b out at t q out''
-given-on {a = a} {b = b} g l h = record { gave = g .gave a b ∙ h .gave; same = λ line rest. h .same line rest ∙ g .same line a b rest; far = λ e. let z = h .far e in omega arith }
+given-on {a = a} {b = b} g l h = record { gave = g .gave a b ∙ h .gave; fits = (λ e. let z = g .fits e in let y = h .fits (omega arith) in omega arith); same = (λ line rest. h .same line rest ∙ g .same line a b rest); far = λ e. let z = h .far e in omega arith }
 
 pub given-end : {s r : State} {out out' : List ℕ} {at p : ℕ} (a b : List ℤ) → GivenOn s out at r p out' → (isBusy r ≡ true → length out < p + 35) → Given s a b out at r p out'
-given-end a b g f = record { gave = g .gave a b; same = λ line rest. g .same line a b rest; far = f }
+given-end a b g f = record { gave = g .gave a b; fits = g .fits; same = (λ line rest. g .same line a b rest); far = f }
 
-pub given-then : {s r t : State} {out out' out'' : List ℕ} {at p q : ℕ} → GivenOn s out at r p out' → GivenOn r out' p t q out'' → GivenOn s out at t q out''
-given-then g h = record { gave = λ a b. g .gave a b ∙ h .gave a b; same = λ line a b rest. h .same line a b rest ∙ g .same line a b rest }
+pub given-then : {s r t : State} {out out' out'' : List ℕ} {at p q : ℕ} → GivenOn s out at r p out' → length out' ≡ length out → GivenOn r out' p t q out'' → GivenOn s out at t q out''
+given-then g l h = record { gave = (λ a b. g .gave a b ∙ h .gave a b); fits = (λ e. let z = g .fits e in let y = h .fits (omega arith) in omega arith); same = λ line a b rest. h .same line a b rest ∙ g .same line a b rest }
 
 -- no route is so wide
 pub none-left : (s : State) {n : ℕ} {m : ℕ} → s .cut ≡ false → s .due ≡ false → 2048 < s .wires → isBusy s ≡ true → n < m

@@ -22,7 +22,8 @@ use Rattle.frame.specs.Written.{moveLine}
 use Rattle.frame.specs.Puts.{puts, LinePut}
 use Rattle.frame.proofs.Puts.{take-puts, answer-length, move-length}
 use Rattle.frame.specs.declared.write.Move.{Move}
-use Rattle.sheet.specs.Route.{differ, moveText, trackText, wireText, wiresText}
+use Rattle.whole.specs.Pick.{differ}
+use Rattle.sheet.specs.Route.{moveText, trackText, wireText, wiresText}
 use Rattle.sheet.specs.Owes.{routeLeft}
 use Rattle.sheet.specs.Parts.{RouteOut, WireOut, TrackOut}
 use Rattle.sheet.proofs.Lines.{either}
@@ -93,13 +94,13 @@ no-tracks l e c i t (suc k) h =
 module _ (m : Move) (out : List ℕ) (at : ℕ) where
   pub track-none : differ (m .from) (m .to) ≡ false → TrackOut (moveText m) out at true at out
   unfolding moveText
-  track-none e = record { wrote = λ h. simp e (sym (append-nil (take at out))); full = λ h. absurd (true≢false h) }
+  track-none e = record { wrote = λ h. simp e (sym (append-nil (take at out))); fits = (λ h. h); full = λ h. absurd (true≢false h) }
 
   pub track-full : (p : ℕ) (out' : List ℕ) → LinePut (moveLine m) out at p out' → p ≡ at → TrackOut (moveText m) out at false at out'
   track-full p out' k e =
       either (leb (at + length (moveLine m)) (length out))
       (λ q. let l = move-length m in let g = k .room (leb-true _ _ q) in absurd (omega (arith, g .0)))
-      (λ q. let l = move-length m in let f = leb-false _ _ q in let g = k .full f in record { wrote = λ h. absurd (true≢false (sym h)); full = λ h. (refl, g .1, omega arith) })
+      (λ q. let l = move-length m in let f = leb-false _ _ q in let g = k .full f in record { wrote = (λ h. absurd (true≢false (sym h))); fits = (λ h. h); full = λ h. (refl, g .1, omega arith) })
 
   pub track-put : (p : ℕ) (out' : List ℕ) → LinePut (moveLine m) out at p out' → (p ≡ at → ⊥) → differ (m .from) (m .to) ≡ true → TrackOut (moveText m) out at true p out'
   unfolding moveText
@@ -108,7 +109,7 @@ module _ (m : Move) (out : List ℕ) (at : ℕ) where
       (λ q.
       let room : at + length (moveLine m) ≤ length out = leb-true _ _ q in
       let g = k .room room in
-      record { wrote = λ h. simp e (ap (λ (z : ℕ). take z out') (g .0) ∙ ap (take (at + length (moveLine m))) (g .1) ∙ take-puts out at (moveLine m) room); full = λ h. absurd (true≢false h) })
+      record { wrote = λ h. simp e (ap (λ (z : ℕ). take z out') (g .0) ∙ ap (take (at + length (moveLine m))) (g .1) ∙ take-puts out at (moveLine m) room); fits = (λ h. omega (arith, g .0)); full = λ h. absurd (true≢false h) })
       (λ q. absurd (n (k .full (leb-false _ _ q) .0)))
 
 -- ---- one wire

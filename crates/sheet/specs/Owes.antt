@@ -94,12 +94,14 @@ pub record Fresh (s : State) : Type 0 where
 pub record Fed (s : State) (line : List ℕ) (a b : List ℤ) (piece out : List ℕ) (from : ℕ) (r : State) (used to : ℕ) (line' : List ℕ) (a' b' : List ℤ) (out' : List ℕ) : Type 0 where
   pub owed : (rest : List ℕ) → take from out ++ owes s line a b (piece ++ rest) ≡ take to out' ++ owes r line' a' b' (drop used piece ++ rest)
   pub within : used ≤ length piece
+  pub fits : from ≤ length out → to ≤ length out
   pub far : used < length piece → length out < to + 35
 
 -- What `give` promises: what is still to write stands in the buffer from place `from` to place `to`. It stops only where the next frame has no room.
 pub record Given (s : State) (a b : List ℤ) (out : List ℕ) (from : ℕ) (r : State) (to : ℕ) (out' : List ℕ) : Type 0 where
   pub gave : take from out ++ pending s a b ≡ take to out' ++ pending r a b
   pub same : (line rest : List ℕ) → later r line a b rest ≡ later s line a b rest
+  pub fits : from ≤ length out → to ≤ length out
   pub far : isBusy r ≡ true → length out < to + 35
 
 -- What `finish` promises: the sheet ends here. With nothing left to write before, all that is owed is written after.

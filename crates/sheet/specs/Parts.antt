@@ -60,6 +60,7 @@ pub record TakenIn (s : State) (line : List ℕ) (a b : List ℤ) (piece : List 
 -- a part of what is still to write was written
 pub record GivenOn (s : State) (out : List ℕ) (from : ℕ) (r : State) (to : ℕ) (out' : List ℕ) : Type 0 where
   pub gave : (a b : List ℤ) → take from out ++ pending s a b ≡ take to out' ++ pending r a b
+  pub fits : from ≤ length out → to ≤ length out
   pub same : (line : List ℕ) (a b : List ℤ) (rest : List ℕ) → later r line a b rest ≡ later s line a b rest
 
 pub record CutGiven (s : State) (out : List ℕ) (from : ℕ) (r : State) (to : ℕ) (out' : List ℕ) : Type 0 where
@@ -74,18 +75,22 @@ pub record DueGiven (s : State) (out : List ℕ) (from : ℕ) (r : State) (to : 
 -- the frames 21 of a route, and of one wire, written as far as they have room
 pub record RouteOut (l s : ℕ) (d : ℤ) (a b : List ℤ) (i t : ℕ) (out : List ℕ) (from : ℕ) (i' t' to : ℕ) (out' : List ℕ) : Type 0 where
   pub gave : take from out ++ routeLeft l s d a b i t ≡ take to out' ++ routeLeft l s d a b i' t'
+  pub fits : from ≤ length out → to ≤ length out
   pub far : i' < length a → length out < to + 35
 
 pub record WireOut (l s : ℕ) (d : ℤ) (a b : List ℤ) (i t : ℕ) (out : List ℕ) (from : ℕ) (t' to : ℕ) (out' : List ℕ) : Type 0 where
   pub gave : take from out ++ wireText l (drawn (length a) (pad a) (topPad b d)) i t (s - t) ≡ take to out' ++ wireText l (drawn (length a) (pad a) (topPad b d)) i t' (s - t')
+  pub fits : from ≤ length out → to ≤ length out
   pub far : t' < s → length out < to + 35
 
 -- the same, of rows that may not be accepted: then there is nothing to write
 pub record AskedOut (l s : ℕ) (d : ℤ) (a b : List ℤ) (i t : ℕ) (out : List ℕ) (from : ℕ) (i' t' to : ℕ) (out' : List ℕ) : Type 0 where
   pub gave : take from out ++ cond (isAsked a b s d) (routeLeft l s d a b i t) [] ≡ take to out' ++ cond (isAsked a b s d) (routeLeft l s d a b i' t') []
+  pub fits : from ≤ length out → to ≤ length out
   pub far : i' < length a → length out < to + 35
 
 -- one track of a wire
 pub record TrackOut (text out : List ℕ) (from : ℕ) (done : Bool) (to : ℕ) (out' : List ℕ) : Type 0 where
   pub wrote : done ≡ true → take to out' ≡ take from out ++ text
+  pub fits : from ≤ length out → to ≤ length out
   pub full : done ≡ false → (to ≡ from) × (out' ≡ out) × (length out < from + 35)

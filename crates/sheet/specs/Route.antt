@@ -1,14 +1,11 @@
 -- The frames 21 of a line (01, "Sheets"): "one for each track t where e_(t+1) differs from e_t, by wire then track, drawn at the lowest offset".
-use mathlib.Core.Bool.{Bool, true, false, cond}
+use mathlib.Core.Bool.{cond}
 use mathlib.Core.List.{List, [], _++_}
 use Prim.Native.Nat.{ℕ, zero, suc, _+_}
 use lib.IntN.{ℤ}
-use lib.Signed.{ltZ}
+use Rattle.whole.specs.Pick.{differ}
 use Rattle.frame.specs.Written.{moveLine}
 use Rattle.frame.specs.declared.write.Move.{Move}
-
-abbrev pub differ : ℤ → ℤ → Bool
-differ x y = cond (ltZ x y) true (ltZ y x)
 
 -- a move from one column to another on a track, which is written if they differ
 unfoldable pub moveText : Move → List ℕ

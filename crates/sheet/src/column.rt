@@ -5,13 +5,12 @@ ghost use lib.ListN.{length};
 ghost use lib.IntN.{pos, natAbs, _+ℤ_, _-ℤ_};
 ghost use Rattle.wiring.specs.Wiring.{pad, topPad};
 ghost use Rattle.wiring.specs.Drawing.{entry};
-ghost use Rattle.jumper.specs.Limits.{AcceptedOffset};
+ghost use Rattle.jumper.specs.Limits.{maxTracks, AcceptedOffset};
 ghost use Rattle.jumper.specs.Rows.{AcceptedRow};
-ghost use Rattle.sheet.specs.Route.{differ};
 
 // The column of bottom pad k, t columns to its left.
 fn ahead(a: &[i32], k: usize, t: usize) -> i32
-    requires { ⌜ AcceptedRow (now a) × (k < length (now a)) × (t ≤ 2048) ⌝ }
+    requires { ⌜ AcceptedRow (now a) × (k < length (now a)) × (t ≤ maxTracks) ⌝ }
     ensures { λ r. ⌜ r ≡ pad (now (a .entry)) k -ℤ pos t ⌝ }
 {
     a[k] - t as i32
@@ -19,7 +18,7 @@ fn ahead(a: &[i32], k: usize, t: usize) -> i32
 
 // The column of bottom pad k, t columns to its right.
 fn behind(a: &[i32], k: usize, t: usize) -> i32
-    requires { ⌜ AcceptedRow (now a) × (k < length (now a)) × (t ≤ 2048) ⌝ }
+    requires { ⌜ AcceptedRow (now a) × (k < length (now a)) × (t ≤ maxTracks) ⌝ }
     ensures { λ r. ⌜ r ≡ pad (now (a .entry)) k +ℤ pos t ⌝ }
 {
     a[k] + t as i32
@@ -35,7 +34,7 @@ pub(crate) fn top_column(b: &[i32], i: usize, d: i32) -> i32
 
 // The column on which wire i enters track t, if it ends on column c.
 pub(crate) fn column(a: &[i32], c: i32, i: usize, t: usize) -> i32
-    requires { ⌜ AcceptedRow (now a) × (i < length (now a)) × (t ≤ 2048) ⌝ }
+    requires { ⌜ AcceptedRow (now a) × (i < length (now a)) × (t ≤ maxTracks) ⌝ }
     ensures { λ r. ⌜ r ≡ entry (length (now (a .entry))) (pad (now (a .entry))) c i t ⌝ }
 {
     if t == 0 {
@@ -51,13 +50,4 @@ pub(crate) fn column(a: &[i32], c: i32, i: usize, t: usize) -> i32
         return whole::smaller(c, ahead(a, i + t, t));
     }
     c
-}
-
-pub(crate) fn differs(x: i32, y: i32) -> bool
-    ensures { λ r. ⌜ r ≡ differ x y ⌝ }
-{
-    if x < y {
-        return true;
-    }
-    y < x
 }

@@ -5,6 +5,7 @@ ghost use mathlib.Core.List.{List};
 ghost use Prim.Native.Nat.{_≤_};
 ghost use lib.ListN.{length};
 ghost use lib.IntN.{ℤ};
+ghost use Rattle.jumper.specs.Limits.{maxPairs};
 ghost use Rattle.sheet.specs.Owes.{Fed, Finished};
 ghost use Rattle.sheet.specs.Parts.{StoredIn, Kept, LineFound, TakenIn, textIn};
 use crate::give::give_all;
@@ -16,6 +17,7 @@ use crate::state::held;
 use crate::state::refuse;
 use crate::state::skip;
 use crate::step::on_text;
+use jumper::limits::MAX_PAIRS;
 use jumper::refusal::Refusal;
 
 // A state, how much of the piece was taken in, and the place after what was written.
@@ -91,7 +93,7 @@ fn text_of<'x>(line: &'x [u8], at: usize, piece: &'x [u8], from: usize, to: usiz
 
 // Takes a piece in until something is to be written, or the piece ends.
 fn take_in(line: &mut [u8], a: &mut [i32], b: &mut [i32], s: State, piece: &[u8]) -> Taking
-    requires { ⌜ (length (now line) ≡ 160) × (length (now a) ≡ 2048) × (length (now b) ≡ 2048) ⌝ }
+    requires { ⌜ (length (now line) ≡ 160) × (length (now a) ≡ maxPairs) × (length (now b) ≡ maxPairs) ⌝ }
     ensures { λ r. ⌜ TakenIn s (now (line .entry)) (now (a .entry)) (now (b .entry)) (now (piece .entry)) (r .s) (r .used) (now (line .exit)) (now (a .exit)) (now (b .exit)) ⌝ }
 {
     let mut st = s;
@@ -121,7 +123,7 @@ fn feed_on(
     out: &mut [u8],
     at: usize,
 ) -> Feeding
-    requires { ⌜ (length (now line) ≡ 160) × (length (now a) ≡ 2048) × (length (now b) ≡ 2048) ⌝ }
+    requires { ⌜ (length (now line) ≡ 160) × (length (now a) ≡ maxPairs) × (length (now b) ≡ maxPairs) ⌝ }
     ensures { λ r. ⌜ Fed s (now (line .entry)) (now (a .entry)) (now (b .entry)) (now (piece .entry)) (now (out .entry)) at (r .s) (r .used) (r .n) (now (line .exit)) (now (a .exit)) (now (b .exit)) (now (out .exit)) ⌝ }
 {
     let mut st = s;
@@ -144,8 +146,8 @@ fn feed_on(
 // A piece of a sheet taken in, and what it calls for written from place `at` of the buffer on, until the piece ends or the buffer has no room.
 pub fn feed(
     line: &mut [u8; 160],
-    a: &mut [i32; 2048],
-    b: &mut [i32; 2048],
+    a: &mut [i32; MAX_PAIRS],
+    b: &mut [i32; MAX_PAIRS],
     s: State,
     piece: &[u8],
     out: &mut [u8],

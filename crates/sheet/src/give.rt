@@ -4,11 +4,11 @@ ghost use mathlib.Core.Bool.{true, false};
 ghost use Prim.Native.Nat.{_+_, _-_, _≤_, _<_};
 ghost use lib.ListN.{length};
 ghost use Rattle.jumper.specs.Asked.{Asked};
+ghost use Rattle.jumper.specs.Limits.{maxPairs};
 ghost use Rattle.sheet.specs.Owes.{Given};
 ghost use Rattle.sheet.specs.Parts.{CutGiven, DueGiven, AskedOut, RouteOut, WireOut, TrackOut};
 ghost use Rattle.sheet.specs.Route.{moveText};
 use crate::column::column;
-use crate::column::differs;
 use crate::column::top_column;
 use crate::state::State;
 use crate::state::show;
@@ -19,6 +19,7 @@ use jumper::asked::check_asked;
 use jumper::limits::MAX_PAIRS;
 use jumper::refusal::Refusal;
 use jumper::rows::Checked;
+use whole::differs;
 
 // A state, and the place after what was written.
 pub struct Giving {
@@ -149,7 +150,7 @@ fn give_wires(
 
 // The route of the first n columns of both rows, if they are accepted with its separation and offset.
 fn give_route(a: &[i32], b: &[i32], s: State, out: &mut [u8], at: usize) -> Giving
-    requires { ⌜ (s .cut ≡ false) × (s .due ≡ false) × (s .wires ≤ length (now a)) × (s .wires ≤ length (now b)) × (s .wires ≤ 2048) ⌝ }
+    requires { ⌜ (s .cut ≡ false) × (s .due ≡ false) × (s .wires ≤ length (now a)) × (s .wires ≤ length (now b)) × (s .wires ≤ maxPairs) ⌝ }
     ensures { λ r. ⌜ Given s (now (a .entry)) (now (b .entry)) (now (out .entry)) at (r .s) (r .n) (now (out .exit)) ⌝ }
 {
     let n = s.wires;
@@ -228,7 +229,7 @@ fn give_due(s: State, out: &mut [u8], at: usize) -> Giving
 
 // Over slices, whose lengths are told.
 pub(crate) fn give_all(a: &[i32], b: &[i32], s: State, out: &mut [u8], at: usize) -> Giving
-    requires { ⌜ (length (now a) ≡ 2048) × (length (now b) ≡ 2048) ⌝ }
+    requires { ⌜ (length (now a) ≡ maxPairs) × (length (now b) ≡ maxPairs) ⌝ }
     ensures { λ r. ⌜ Given s (now (a .entry)) (now (b .entry)) (now (out .entry)) at (r .s) (r .n) (now (out .exit)) ⌝ }
 {
     let g = give_cut(s, out, at);
@@ -248,7 +249,13 @@ pub(crate) fn give_all(a: &[i32], b: &[i32], s: State, out: &mut [u8], at: usize
 }
 
 // Writes what is still to write from place `at` of the buffer on, as far as it has room for whole frames.
-pub fn give(a: &[i32; 2048], b: &[i32; 2048], s: State, out: &mut [u8], at: usize) -> Giving
+pub fn give(
+    a: &[i32; MAX_PAIRS],
+    b: &[i32; MAX_PAIRS],
+    s: State,
+    out: &mut [u8],
+    at: usize,
+) -> Giving
     ensures { λ r. ⌜ Given s (now (a .entry)) (now (b .entry)) (now (out .entry)) at (r .s) (r .n) (now (out .exit)) ⌝ }
 {
     give_all(a, b, s, out, at)

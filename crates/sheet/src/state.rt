@@ -147,7 +147,7 @@ pub(crate) fn head(s: State, o: Order) -> State
     let line = o.line;
     let before = s.seen;
     let seen = with_line(before, line);
-    if 64 <= line {
+    if MAX_LINES <= line as usize {
         return refuse(line, Refusal::Line, seen);
     }
     if has_line(before, line) {

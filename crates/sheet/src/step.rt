@@ -5,6 +5,7 @@ ghost use Prim.Native.Nat.{_+_, _≤_};
 ghost use lib.ListN.{length, take};
 ghost use Rattle.frame.specs.Frame.{textFrame, saidOf};
 ghost use Rattle.frame.specs.Puts.{puts};
+ghost use Rattle.jumper.specs.Limits.{maxPairs};
 ghost use Rattle.sheet.specs.Steps.{isHeld, readyTo, skippingTo, BottomPut, TopPut};
 ghost use Rattle.sheet.specs.Parts.{Reacted};
 use crate::plan::plan_first;
@@ -62,7 +63,7 @@ fn put(columns: &[i32], k: usize, row: &mut [i32], to: usize)
 }
 
 fn on_bottom(columns: &[i32; 16], a: &mut [i32], s: State, line: u8, k: usize) -> State
-    requires { ⌜ (isHeld s ≡ true) × (k ≤ 16) × (length (now a) ≡ 2048) ⌝ }
+    requires { ⌜ (isHeld s ≡ true) × (k ≤ 16) × (length (now a) ≡ maxPairs) ⌝ }
     ensures { λ r. ⌜ BottomPut s (now (columns .entry)) (now (a .entry)) line k r (now (a .exit)) ⌝ }
 {
     let order = s.order;
@@ -80,7 +81,7 @@ fn on_bottom(columns: &[i32; 16], a: &mut [i32], s: State, line: u8, k: usize) -
 }
 
 fn on_top(columns: &[i32; 16], a: &[i32], b: &mut [i32], s: State, line: u8, k: usize) -> State
-    requires { ⌜ (isHeld s ≡ true) × (k ≤ 16) × (length (now a) ≡ 2048) × (length (now b) ≡ 2048) ⌝ }
+    requires { ⌜ (isHeld s ≡ true) × (k ≤ 16) × (length (now a) ≡ maxPairs) × (length (now b) ≡ maxPairs) ⌝ }
     ensures { λ r. ⌜ TopPut s (now (columns .entry)) (now (a .entry)) (now (b .entry)) line k r (now (b .exit)) ⌝ }
 {
     let order = s.order;
@@ -107,7 +108,7 @@ fn on_top(columns: &[i32; 16], a: &[i32], b: &mut [i32], s: State, line: u8, k: 
 }
 
 fn on_inside(text: &[u8], a: &mut [i32], b: &mut [i32], s: State) -> State
-    requires { ⌜ (isHeld s ≡ true) × (s .phase ≡ Phase.Inside) × (length (now a) ≡ 2048) × (length (now b) ≡ 2048) ⌝ }
+    requires { ⌜ (isHeld s ≡ true) × (s .phase ≡ Phase.Inside) × (length (now a) ≡ maxPairs) × (length (now b) ≡ maxPairs) ⌝ }
     ensures { λ r. ⌜ Reacted s (now (a .entry)) (now (b .entry)) (textFrame (now (text .entry))) r (now (a .exit)) (now (b .exit)) ⌝ }
 {
     let line = s.order.line;
@@ -131,7 +132,7 @@ fn said_of(text: &[u8]) -> Said
 
 // A whole line, by its text: all before its line feed.
 pub(crate) fn on_text(text: &[u8], a: &mut [i32], b: &mut [i32], s: State) -> State
-    requires { ⌜ (length (now a) ≡ 2048) × (length (now b) ≡ 2048) ⌝ }
+    requires { ⌜ (length (now a) ≡ maxPairs) × (length (now b) ≡ maxPairs) ⌝ }
     ensures { λ r. ⌜ Reacted s (now (a .entry)) (now (b .entry)) (textFrame (now (text .entry))) r (now (a .exit)) (now (b .exit)) ⌝ }
 {
     let phase = s.phase;

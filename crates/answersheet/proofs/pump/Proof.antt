@@ -1,18 +1,20 @@
-use borrow.Author.Needs.{needs}
 use native.Mathlib.Omega.{arith}
-use Prim.Native.Nat.{_≤_, _+_, _-_}
-use lib.ListN.{length, take, drop, length-take, length-drop}
+use mathlib.Core.Path.{_≡_, refl, _∙_}
+use mathlib.Core.Logic.{⊎-elim}
+use Prim.Native.Nat.{_≤_}
+use lib.ListN.{length, length-take, length-drop}
+use borrow.Author.Needs.{needs}
 use Rattle.answersheet.proofs.pump.Statement.{statement}
 use Rattle.answersheet.proofs.pump.Tie as tie
 
 abbrev Inv-loop : tie.InvT-loop
-Inv-loop piece line₀ a₀ b₀ out₀ n st₀ at₀ well₀ used₀ turns₀ line a b out st at well used turns = used ≤ length piece
+Inv-loop piece line₀ a₀ b₀ out₀ n st₀ at₀ well₀ used₀ turns₀ line a b out st at well used turns = (used ≤ length piece) × (length out ≡ length out₀) × (at ≤ length out₀)
 
 abbrev μ-loop : tie.MeasureT-loop
 μ-loop piece line₀ a₀ b₀ out₀ n st₀ at₀ well₀ used₀ turns₀ line a b out st at well used turns = turns
 
 loop-holds : tie.Need-loop-holds Inv-loop μ-loop
-loop-holds c = search needs
+loop-holds c = (omega arith, refl, c .before .before .pre)
 
 sub-feed : tie.Need-sub-feed Inv-loop μ-loop
 sub-feed c = search needs
@@ -27,10 +29,10 @@ feed-requires : tie.Need-feed-requires Inv-loop μ-loop
 feed-requires c κs = search needs
 
 add-used : tie.Need-add-used Inv-loop μ-loop
-add-used c = let w = simp (length-take, length-drop) at (c .before .before .feed .ensures .within) in omega (arith, w, c .before .before .before .before .before .before .before .before .before .before .before .loop .inv, c .before .before .before .before .before .before .before .before .before .before .before .before .before .good)
+add-used c = let w = simp (length-take, length-drop) at (c .before .before .before .before .feed .ensures .within) in omega (arith, w, c .before .before .before .before .before .before .before .before .before .before .before .before .before .loop .inv .0, c .before .before .before .before .before .before .before .before .before .before .before .before .before .before .before .before .good)
 
 send-requires : tie.Need-send-requires Inv-loop μ-loop
-send-requires c κs = search needs
+send-requires c κs = let z = c .before .before .before .before .before .before .feed .ensures .fits (omega (arith, c .before .before .before .before .before .before .before .before .before .before .before .before .before .before .before .loop .inv .1, c .before .before .before .before .before .before .before .before .before .before .before .before .before .before .before .loop .inv .2)) in omega (arith, z, c .before .before .before .before .before .before .feed .kept .1 .1 .1 .1 .1 .0)
 
 sub-turns : tie.Need-sub-turns Inv-loop μ-loop
 sub-turns c = search needs
@@ -39,16 +41,25 @@ loop-less : tie.Need-loop-less Inv-loop μ-loop
 loop-less c = search needs
 
 loop-again : tie.Need-loop-again Inv-loop μ-loop
-loop-again c = let w = simp (length-take, length-drop) at (c .before .before .before .feed .ensures .within) in omega (arith, w, c .before .before .before .before .before .before .before .before .before .before .before .before .loop .inv)
+loop-again c = (let w = simp (length-take, length-drop) at (c .before .before .before .before .before .feed .ensures .within) in omega (arith, w, c .before .before .before .before .before .before .before .before .before .before .before .before .before .before .loop .inv .0), c .before .before .before .before .before .feed .kept .1 .1 .1 .1 .1 .0 ∙ c .before .before .before .before .before .before .before .before .before .before .before .before .before .before .loop .inv .1, ⊎-elim (λ w. omega (arith, w .3)) (λ w. let z = c .before .before .before .before .before .feed .ensures .fits (omega (arith, c .before .before .before .before .before .before .before .before .before .before .before .before .before .before .loop .inv .1, c .before .before .before .before .before .before .before .before .before .before .before .before .before .before .loop .inv .2)) in omega (arith, z, w .1, c .before .before .before .before .before .before .before .before .before .before .before .before .before .before .loop .inv .1)) (c .if3 .came))
+
+same-length : tie.Need-same-length Inv-loop μ-loop
+same-length c = c .before .before .before .loop .inv .1
 
 returns : tie.Need-returns Inv-loop μ-loop
-returns c = search needs
+returns c = c .before .before .before .loop .inv .2
+
+same-length-2 : tie.Need-same-length-2 Inv-loop μ-loop
+same-length-2 c = c .before .before .loop .inv .1
 
 returns-2 : tie.Need-returns-2 Inv-loop μ-loop
-returns-2 c = search needs
+returns-2 c = c .before .before .loop .inv .2
+
+same-length-3 : tie.Need-same-length-3 Inv-loop μ-loop
+same-length-3 c = c .before .loop .inv .1
 
 returns-3 : tie.Need-returns-3 Inv-loop μ-loop
-returns-3 c = search needs
+returns-3 c = c .before .loop .inv .2
 
 pub pump-spec : {M : Type 1} → statement M
 pump-spec =
@@ -66,6 +77,9 @@ pump-spec =
     sub-turns
     loop-less
     loop-again
+    same-length
     returns
+    same-length-2
     returns-2
+    same-length-3
     returns-3)

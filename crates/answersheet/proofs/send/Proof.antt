@@ -5,7 +5,7 @@ use Rattle.answersheet.proofs.send.Statement.{statement}
 use Rattle.answersheet.proofs.send.Tie as tie
 
 slice-aggregate-write-all : tie.Need-slice-aggregate-write-all
-slice-aggregate-write-all c = sym (length-take-le _ _ (c .before .if1 .taken))
+slice-aggregate-write-all c = sym (length-take-le _ _ (c .before .before .pre))
 
 write-all-requires : tie.Need-write-all-requires
 write-all-requires c κs = search needs

@@ -20,13 +20,13 @@ use Rattle.sheet.proofs.give.give_wire.Statement.{statement}
 use Rattle.sheet.proofs.give.give_wire.Tie as tie
 
 abbrev Inv-loop : tie.InvT-loop
-Inv-loop a b line s d i track out₀ at c t₀ p₀ x₀ out t p x = (length out ≡ length out₀) × (t ≤ s) × (toZ w32 x ≡ entry (length a) (pad a) (topPad b (toZ w32 d) i) i t) × (take at out₀ ++ wireText line (drawn (length a) (pad a) (topPad b (toZ w32 d))) i track (s - track) ≡ take p out ++ wireText line (drawn (length a) (pad a) (topPad b (toZ w32 d))) i t (s - t))
+Inv-loop a b line s d i track out₀ at c t₀ p₀ x₀ out t p x = (length out ≡ length out₀) × (t ≤ s) × (toZ w32 x ≡ entry (length a) (pad a) (topPad b (toZ w32 d) i) i t) × (take at out₀ ++ wireText line (drawn (length a) (pad a) (topPad b (toZ w32 d))) i track (s - track) ≡ take p out ++ wireText line (drawn (length a) (pad a) (topPad b (toZ w32 d))) i t (s - t)) × (at ≤ length out₀ → p ≤ length out₀)
 
 abbrev μ-loop : tie.MeasureT-loop
 μ-loop a b line s d i track out₀ at c t₀ p₀ x₀ out t p x = s - t
 
 returns : tie.Need-returns Inv-loop μ-loop
-returns c = record { gave = refl; far = λ h. absurd (omega (arith, c .if1 .taken)) }
+returns c = record { gave = refl; fits = (λ h. h); far = λ h. absurd (omega (arith, c .if1 .taken)) }
 
 top-column-requires : tie.Need-top-column-requires Inv-loop μ-loop
 top-column-requires c κs = let q = c .before .before .pre in let e = toZ-ofZ w32 (c .before .before .args .d) (c .before .before .fits .d) in rw e (q .0 .rows .top, q .0 .offset, omega (arith, q .1, q .0 .rows .equal))
@@ -37,7 +37,7 @@ column-requires c κs = let q = c .before .before .before .pre in (q .0 .rows .b
 loop-holds : tie.Need-loop-holds Inv-loop μ-loop
 loop-holds c =
     let ec = back (c .before .top-column .result) (c .before .top-column .ok) ∙ c .before .top-column .ensures in
-    (refl, search needs, back (c .column .result) (c .column .ok) ∙ c .column .ensures ∙ ap (λ (z : ℤ). entry (length (c .before .before .before .before .args .a .now)) (pad (c .before .before .before .before .args .a .now)) z (c .before .before .before .before .args .i) (c .before .before .before .before .args .track)) ec, refl)
+    (refl, search needs, back (c .column .result) (c .column .ok) ∙ c .column .ensures ∙ ap (λ (z : ℤ). entry (length (c .before .before .before .before .args .a .now)) (pad (c .before .before .before .before .args .a .now)) z (c .before .before .before .before .args .i) (c .before .before .before .before .args .track)) ec, refl, λ h. h)
 
 differs-requires : tie.Need-differs-requires Inv-loop μ-loop
 differs-requires c κs = search needs
@@ -69,6 +69,7 @@ loop-again c =
       ey,
       wire-step (g .line) (g .s) E (g .i) W (c .before .before .before .before .before .before .before .before .before .loop .out) (c .before .before .before .give-track .last .1 .0) (c .before .before .before .before .before .before .before .before .before .loop .t) (c .before .before .before .before .before .before .before .before .before .loop .p) (c .before .before .before .give-track .result .at) (toZ w32 (c .before .before .before .before .before .before .before .before .before .loop .x)) (toZ w32 (ofZ w32 (c .before .before .before .before .before .column2 .result)))
           (c .before .before .before .before .before .before .before .before .loop-test .taken) (c .before .before .before .before .before .before .before .before .before .loop .inv .2) ey (c .before .before .before .before .before .before .before .before .before .loop .inv .3) (c .before .before .before .give-track .ensures .wrote (c .if3 .taken)),
+      λ h. let y = c .before .before .before .before .before .before .before .before .before .loop .inv .4 h in let z = c .before .before .before .give-track .ensures .fits (omega (arith, y, c .before .before .before .before .before .before .before .before .before .loop .inv .0)) in omega (arith, z, c .before .before .before .before .before .before .before .before .before .loop .inv .0),
     )
 
 same-length : tie.Need-same-length Inv-loop μ-loop
@@ -83,6 +84,7 @@ returns-2 c =
     let f = c .before .before .before .give-track .ensures .full (c .if3 .left) in
     record {
       gave = rw e at (wire-full (g .line) (g .s) E (g .i) W (c .before .before .before .before .before .before .before .before .before .loop .out) (c .before .before .before .give-track .last .1 .0) (c .before .before .before .before .before .before .before .before .before .loop .t) (c .before .before .before .before .before .before .before .before .before .loop .p) (f .1) (c .before .before .before .before .before .before .before .before .before .loop .inv .3));
+      fits = c .before .before .before .before .before .before .before .before .before .loop .inv .4;
       far = λ h. omega (arith, f .2, c .before .before .before .before .before .before .before .before .before .loop .inv .0);
     }
 
@@ -99,6 +101,7 @@ returns-3 c =
     record {
       gave = rw e at (wire-still (g .line) (g .s) (length (g .a .now)) (pad (g .a .now)) C (c .before .before .before .before .before .before .before .before .pre .0 .rows .bottom .rising) (g .i) W (c .before .before .before .loop .out) (c .before .before .before .loop .t) (c .before .before .before .loop .p) (toZ w32 (c .before .before .before .loop .x)) (toZ w32 (ofZ w32 (c .before .before .before .before .before .top-column .result)))
           (c .before .before .before .before .before .before .before .before .pre .1) (c .before .before .before .loop .inv .2) ec (sym (c .before .differs .ensures) ∙ c .if2 .left) (c .before .before .before .loop .inv .3));
+      fits = c .before .before .before .loop .inv .4;
       far = λ h. absurd (omega arith);
     }
 
@@ -108,7 +111,7 @@ same-length-3 c = c .before .loop .inv .0
 returns-4 : tie.Need-returns-4 Inv-loop μ-loop
 returns-4 c =
     let e = toZ-ofZ w32 (c .before .before .before .before .before .before .args .d) (c .before .before .before .before .before .before .fits .d) in
-    record { gave = rw e at (c .before .loop .inv .3); far = λ h. absurd (omega (arith, c .loop-test .left)) }
+    record { gave = rw e at (c .before .loop .inv .3); fits = c .before .loop .inv .4; far = λ h. absurd (omega (arith, c .loop-test .left)) }
 
 pub give-wire-spec : {M : Type 1} → statement M
 give-wire-spec =

@@ -2,7 +2,7 @@ use borrow.Author.Needs.{needs}
 use native.Mathlib.Omega.{arith}
 use mathlib.Core.Path.{_≡_, refl, sym, _∙_}
 use mathlib.Core.List.{_++_}
-use Prim.Native.Nat.{_-_, _+_}
+use Prim.Native.Nat.{_-_, _+_, _≤_}
 use lib.ListN.{length, take}
 use mir.Syntax.{w32}
 use mir.Val.{toZ, ofZ}
@@ -13,13 +13,13 @@ use Rattle.sheet.proofs.give.give_wires.Statement.{statement}
 use Rattle.sheet.proofs.give.give_wires.Tie as tie
 
 abbrev Inv-loop : tie.InvT-loop
-Inv-loop a b line s d wire track out₀ at i₀ t₀ p₀ out i t p = (length out ≡ length out₀) × (take at out₀ ++ routeLeft line s (toZ w32 d) a b wire track ≡ take p out ++ routeLeft line s (toZ w32 d) a b i t)
+Inv-loop a b line s d wire track out₀ at i₀ t₀ p₀ out i t p = (length out ≡ length out₀) × (take at out₀ ++ routeLeft line s (toZ w32 d) a b wire track ≡ take p out ++ routeLeft line s (toZ w32 d) a b i t) × (at ≤ length out₀ → p ≤ length out₀)
 
 abbrev μ-loop : tie.MeasureT-loop
 μ-loop a b line s d wire track out₀ at i₀ t₀ p₀ out i t p = length a - i
 
 loop-holds : tie.Need-loop-holds Inv-loop μ-loop
-loop-holds c = (refl, refl)
+loop-holds c = (refl, refl, λ h. h)
 
 give-wire-requires : tie.Need-give-wire-requires Inv-loop μ-loop
 give-wire-requires c κs = let e = toZ-ofZ w32 (c .before .before .before .before .args .d) (c .before .before .before .before .fits .d) in rw e (c .before .before .before .before .pre, c .before .loop-test .taken)
@@ -35,6 +35,7 @@ returns c =
     let w = c .before .before .before .give-wire .ensures in
     record {
       gave = rw e at (c .before .before .before .before .before .before .loop .inv .1 ∙ route-stop (g .line) (g .s) D (g .a .now) (g .b .now) (c .before .before .before .before .before .before .loop .i) (c .before .before .before .before .before .before .loop .t) (c .before .before .before .give-wire .result .track) (c .before .before .before .before .before .before .loop .out) (c .before .before .before .give-wire .last .1 .1 .1 .1 .1 .1 .1 .0) (c .before .before .before .before .before .before .loop .p) (c .before .before .before .give-wire .result .at) (c .before .before .before .before .before .loop-test .taken) (w .gave));
+      fits = (λ h. let y = c .before .before .before .before .before .before .loop .inv .2 h in let z = c .before .before .before .give-wire .ensures .fits (omega (arith, y, c .before .before .before .before .before .before .loop .inv .0)) in omega (arith, z, c .before .before .before .before .before .before .loop .inv .0));
       far = λ h. let z = w .far (c .if1 .taken) in omega (arith, z, c .before .before .before .before .before .before .loop .inv .0);
     }
 
@@ -52,13 +53,14 @@ loop-again c =
       c .before .before .before .before .before .before .loop .inv .1
           ∙ route-more (g .line) (g .s) D (g .a .now) (g .b .now) (c .before .before .before .before .before .before .loop .i) (c .before .before .before .before .before .before .loop .t) (c .before .before .before .give-wire .result .track) (c .before .before .before .before .before .before .loop .out) (c .before .before .before .give-wire .last .1 .1 .1 .1 .1 .1 .1 .0) (c .before .before .before .before .before .before .loop .p) (c .before .before .before .give-wire .result .at) (c .before .before .before .before .before .loop-test .taken) (c .if1 .left)
           (c .before .before .before .give-wire .ensures .gave),
+      λ h. let y = c .before .before .before .before .before .before .loop .inv .2 h in let z = c .before .before .before .give-wire .ensures .fits (omega (arith, y, c .before .before .before .before .before .before .loop .inv .0)) in omega (arith, z, c .before .before .before .before .before .before .loop .inv .0),
     )
 
 same-length-2 : tie.Need-same-length-2 Inv-loop μ-loop
 same-length-2 c = c .before .loop .inv .0
 
 returns-2 : tie.Need-returns-2 Inv-loop μ-loop
-returns-2 c = let e = toZ-ofZ w32 (c .before .before .before .args .d) (c .before .before .before .fits .d) in record { gave = rw e at (c .before .loop .inv .1); far = λ h. absurd (omega (arith, c .loop-test .left)) }
+returns-2 c = let e = toZ-ofZ w32 (c .before .before .before .args .d) (c .before .before .before .fits .d) in record { gave = rw e at (c .before .loop .inv .1); fits = c .before .loop .inv .2; far = λ h. absurd (omega (arith, c .loop-test .left)) }
 
 pub give-wires-spec : {M : Type 1} → statement M
 give-wires-spec =

@@ -8,6 +8,9 @@ use Rattle.sheet.proofs.state.head.Tie as tie
 with-line-requires : tie.Need-with-line-requires
 with-line-requires c κs = search needs
 
+cast-if1 : tie.Need-cast-if1
+cast-if1 c = search needs
+
 refuse-requires : tie.Need-refuse-requires
 refuse-requires c κs = search needs
 
@@ -51,6 +54,7 @@ head-spec =
     tie.close
     (tie.spec
     with-line-requires
+    cast-if1
     refuse-requires
     returns
     has-line-requires
