@@ -1,4 +1,4 @@
-// Floor 8: the calls of the product for C and Rust. A slice is a pointer and a count of elements; every answer comes back as `Numbers` by value.
+// Floor 8: the calls of the product for C and Rust. A slice is a pointer and a count of elements; an answer comes back by value, as `Numbers` but for a stretch and a record.
 // Each promises which numbers and which buffer, at every input (`answer`, `buffer`), and all that the call it stands for promises (`means`).
 ghost use mathlib.Core.Path.{_≡_};
 ghost use lib.ListN.{length};

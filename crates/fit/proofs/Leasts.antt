@@ -26,7 +26,8 @@ use Rattle.fit.specs.Misfit.{tooRight, tooLeft, isRight, misfitFrom, mis
 use Rattle.fit.specs.Least.{breaksAt, leastOf, withWitness, LeastAnswer}
 use Rattle.fit.specs.declared.misfit.Misfit.the-variants.{None, At}
 use Rattle.fit.specs.declared.least.Least.the-variants.{Straight, Tracks, Refused as NoLeast}
-use Rattle.fit.proofs.Misfits.{Free, not-here, none-fits, at-witness, witness-inside, witness-breaks, free-before, wiring-exactly}
+use Rattle.jumper.proofs.Wired.{wiring-exactly}
+use Rattle.fit.proofs.Misfits.{Free, not-here, none-fits, at-witness, witness-inside, witness-breaks, free-before}
 
 -- pair i, by the test
 breaks : (x y : ℕ → ℤ) (s : ℕ) (d : ℤ) (n i : ℕ) → i + s < n → breaksAt x y s d i ≡ true → TooRight n s x y d i ⊎ TooLeft n s x y d i

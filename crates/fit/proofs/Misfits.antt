@@ -23,6 +23,7 @@ use Rattle.jumper.specs.declared.refusal.Side.{Side}
 use Rattle.jumper.specs.declared.refusal.Side.the-variants.{Right, Left}
 use Rattle.jumper.specs.declared.refusal.Refusal.{Refusal}
 use Rattle.jumper.specs.declared.rows.Checked.the-variants.{Accepted, Refused}
+use Rattle.jumper.proofs.Wired.{wiring-exactly}
 use Rattle.jumper.proofs.Accepted.{numbered, refused-not}
 use Rattle.jumper.proofs.Checks.{accepted-asked, asked-accepted, early-asked}
 use Rattle.fit.specs.Misfit.{tooRight, tooLeft, misfitFrom, misfitOf, noFit, Witness, FitAnswer}
@@ -117,10 +118,6 @@ fits-none a b s d f = go (misfitOf a b s d) refl
     go : (m : Misfit) → misfitOf a b s d ≡ m → m ≡ None
     go None e = refl
     go (At i k) e = absurd (witness-breaks (at-witness a b s d i k e) f)
-
--- A LEGAL WIRING exists exactly when the rule holds, for rows as lists
-pub wiring-exactly : {a b : List ℤ} → AcceptedRows a b → (s : ℕ) (d : ℤ) → HasWiring a b s d ↔ Fits (length a) s (leanOf a) (leanOf b) d
-wiring-exactly {a} {b} r s d = fit-exactly (length a) s (pad a) (pad b) d (r .bottom .rising) (rw (r .equal) (r .top .rising))
 
 -- WHAT `fit` PROMISES, from its answer
 by-misfit : (a b : List ℤ) (s : ℕ) (d : ℤ) → Asked a b s d → (m : Misfit) → misfitOf a b s d ≡ m → FitAnswer a b s d (noFit m)

@@ -28,7 +28,7 @@ use Rattle.jumper.proofs.Spans.{range-exactly, none-fits}
 use Rattle.fit.specs.Offsets.{lowGap, highGap, gapsOf, rangeFound, FirstLow, FirstHigh, OffsetsAnswer}
 use Rattle.fit.specs.declared.offsets.Offsets.the-variants.{Range, Refused as NoRange}
 use Rattle.fit.proofs.Ends.{low-is, high-is}
-use Rattle.fit.proofs.Misfits.{wiring-exactly}
+use Rattle.jumper.proofs.Wired.{wiring-exactly}
 
 -- `rangeFound` by the code's tests
 module _ (n : ℕ) (x y : ℕ → ℤ) (s : ℕ) where

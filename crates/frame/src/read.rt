@@ -139,7 +139,7 @@ fn carrier(text: &[u8], k: usize, columns: &mut [i32]) -> Said
     Said::Bad
 }
 
-// Over a slice, whose length is told. The length decides first: it is cheap to tell, and most damaged lines have none that fits.
+// Over a slice, whose length is told. The length decides first: it is cheap to tell, and many damaged lines have none that fits.
 fn read_on(text: &[u8], columns: &mut [i32]) -> Said
     requires { ⌜ length (now columns) ≡ 16 ⌝ }
     ensures { λ r. ⌜ ReadIn (textFrame (now (text .entry))) (now (columns .entry)) r (now (columns .exit)) ⌝ }

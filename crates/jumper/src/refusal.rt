@@ -2,7 +2,7 @@
 ghost use mathlib.Core.Path.{_≡_};
 ghost use Rattle.jumper.specs.Refusals.{refusalNumbers, refusedWith, sideNumber};
 
-// On which side of bottom pad i + s top pad i is too far, or of top pad i + s bottom pad i.
+// Which way top pads lie too far off: RIGHT, top pad i is too far right of bottom pad i + s; LEFT, top pad i + s is too far left of bottom pad i.
 pub enum Side {
     Right,
     Left,

@@ -22,7 +22,7 @@ use Rattle.jumper.specs.declared.rows.Checked.the-variants.{Accepted, Refused}
 use Rattle.jumper.proofs.Accepted.{numbered, refused-not, accepted-of}
 use Rattle.jumper.proofs.Checks.{accepted-asked, asked-accepted, early-asked}
 use Rattle.fit.specs.Misfit.{FitAnswer}
-use Rattle.fit.proofs.Misfits.{wiring-exactly}
+use Rattle.jumper.proofs.Wired.{wiring-exactly}
 use Rattle.route.specs.Table.{columnIn, columns, wires, LegalRoute}
 use Rattle.route.specs.Draw.{drawnOf, drawnWires, wireDrawn, allDrawn, DrawWireAnswer, DrawAllAnswer}
 use Rattle.route.specs.Check.{NoFault, FirstFault, firstFault, routeChecked, RouteCheck}

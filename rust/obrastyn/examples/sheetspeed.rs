@@ -29,14 +29,14 @@ fn main() {
     let root = concat!(env!("CARGO_MANIFEST_DIR"), "/../..");
     let ours = format!("{root}/target/bin/answersheet");
     let plain = format!("{root}/rust/target/release/sheetbase");
-    let dense = sheet(|i| 32 * i - i % 2, |i| 32 * i + i % 3);
-    let sparse = sheet(|i| i, |i| i + 1);
+    let few = sheet(|i| 32 * i - i % 2, |i| 32 * i + i % 3);
+    let many = sheet(|i| i, |i| i + 1);
     let mut damaged = Vec::new();
     while damaged.len() < 50_000_000 {
         damaged.extend_from_slice(b"1100020000000000000001ED\n10000002FFFF0000000\nnothing of a frame\n1000000200000000000EEE\n");
     }
     println!("{:44} {:>12} {:>12} {:>7}", "sheet", "ours, s", "plain, s", "ratio");
-    for (name, bytes) in [("64 lines of 2048 pairs, few tracks", dense), ("64 lines of 2048 pairs, 2048 tracks", sparse), ("50 MB of damaged lines", damaged)] {
+    for (name, bytes) in [("64 lines of 2048 pairs, few tracks", few), ("64 lines of 2048 pairs, 2048 tracks", many), ("50 MB of damaged lines", damaged)] {
         let path = std::env::temp_dir().join("obrastyn-sheet");
         let path = path.to_str().unwrap();
         File::create(path).unwrap().write_all(&bytes).unwrap();
