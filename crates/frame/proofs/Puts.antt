@@ -8,7 +8,7 @@ use native.Mathlib.Numerals.{add-one}
 use native.Mathlib.Omega.{arith}
 use lib.ListN.{length, getD, drop, take, set, length-set, length-append, drop-of-length-le}
 use lib.Seq.{drop-cons, take-suc-set}
-use Rattle.frame.specs.Hex.{digitOf, textOf, total, lastByte, lineOf}
+use Rattle.frame.specs.Hex.{Digits, digitOf, textOf, total, lastByte, lineOf}
 use Rattle.frame.specs.Frame.{four, fours}
 use mir.Syntax.{w32}
 use mir.Val.{ofZ}
@@ -80,6 +80,34 @@ line-end out out' bs at i w r h er e =
     ∙ ap (λ (x : ℕ). puts out (at + 2 * i) (textOf (x ∷ []) ++ (10 ∷ []))) (sym er)
     ∙ ap (λ (l : List ℕ). set l (at + 2 * i + 1 + 1) 10) (sym e)
     ∙ ap (λ (n : ℕ). set out' n 10) p
+
+-- ---- the sixteen digits
+
+abbrev pub sixteen : List ℕ
+sixteen = 48 ∷ 49 ∷ 50 ∷ 51 ∷ 52 ∷ 53 ∷ 54 ∷ 55 ∷ 56 ∷ 57 ∷ 65 ∷ 66 ∷ 67 ∷ 68 ∷ 69 ∷ 70 ∷ []
+
+digit-at : (d : ℕ) → d < 16 → getD sixteen d 0 ≡ digitOf d
+unfolding digitOf
+digit-at zero h = refl
+digit-at (suc zero) h = refl
+digit-at (suc (suc zero)) h = refl
+digit-at (suc (suc (suc zero))) h = refl
+digit-at (suc (suc (suc (suc zero)))) h = refl
+digit-at (suc (suc (suc (suc (suc zero))))) h = refl
+digit-at (suc (suc (suc (suc (suc (suc zero)))))) h = refl
+digit-at (suc (suc (suc (suc (suc (suc (suc zero))))))) h = refl
+digit-at (suc (suc (suc (suc (suc (suc (suc (suc zero)))))))) h = refl
+digit-at (suc (suc (suc (suc (suc (suc (suc (suc (suc zero))))))))) h = refl
+digit-at (suc (suc (suc (suc (suc (suc (suc (suc (suc (suc zero)))))))))) h = refl
+digit-at (suc (suc (suc (suc (suc (suc (suc (suc (suc (suc (suc zero))))))))))) h = refl
+digit-at (suc (suc (suc (suc (suc (suc (suc (suc (suc (suc (suc (suc zero)))))))))))) h = refl
+digit-at (suc (suc (suc (suc (suc (suc (suc (suc (suc (suc (suc (suc (suc zero))))))))))))) h = refl
+digit-at (suc (suc (suc (suc (suc (suc (suc (suc (suc (suc (suc (suc (suc (suc zero)))))))))))))) h = refl
+digit-at (suc (suc (suc (suc (suc (suc (suc (suc (suc (suc (suc (suc (suc (suc (suc zero))))))))))))))) h = refl
+digit-at (suc (suc (suc (suc (suc (suc (suc (suc (suc (suc (suc (suc (suc (suc (suc (suc d)))))))))))))))) h = absurd (omega arith)
+
+pub digits-are : Digits sixteen
+digits-are = (refl, digit-at)
 
 -- ---- its sum
 

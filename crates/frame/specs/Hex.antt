@@ -51,6 +51,10 @@ lineOf bs = textOf (bs ++ (lastByte bs ∷ [])) ++ (10 ∷ [])
 
 -- ---- what the parts of the code promise each other
 
+-- the sixteen digits, each at the place of its worth
+abbrev pub Digits : List ℕ → Type 0
+Digits table = (length table ≡ 16) × ((d : ℕ) → d < 16 → getD table d 0 ≡ digitOf d)
+
 -- what reading one digit hands back: its worth, 16 for a byte that is none
 pub record DigitRead (c r : ℕ) : Type 0 where
   pub small : r ≤ 16

@@ -3,7 +3,7 @@ ghost use mathlib.Core.Path.{_≡_};
 ghost use mathlib.Core.Logic.{_⊎_};
 ghost use Prim.Native.Nat.{ℕ, _+_, _*_, _/_, _%_, _≤_, _<_};
 ghost use lib.ListN.{length, getD};
-ghost use Rattle.frame.specs.Hex.{DigitRead, WorthsRead, BytesLaid, Decoded, digitOf};
+ghost use Rattle.frame.specs.Hex.{DigitRead, WorthsRead, BytesLaid, Decoded};
 use std::num;
 
 // The worth of a digit, 16 for a byte that is none.
@@ -23,16 +23,6 @@ fn digit(c: u8) -> u8
         return c - 55;
     }
     16
-}
-
-pub(crate) fn hex_digit(d: u8) -> u8
-    requires { ⌜ d < 16 ⌝ }
-    ensures { λ r. ⌜ r ≡ digitOf d ⌝ }
-{
-    if d < 10 {
-        return 48 + d;
-    }
-    55 + d
 }
 
 fn larger(x: u8, y: u8) -> u8

@@ -4,11 +4,10 @@ ghost use mathlib.Core.List.{List};
 ghost use Prim.Native.Nat.{_+_, _*_, _-_, _≤_, _<_, _/_, _%_};
 ghost use mir.Val.{ofZ};
 ghost use mir.Syntax.{w32};
-ghost use lib.ListN.{length};
-ghost use Rattle.frame.specs.Hex.{textOf, lineOf};
+ghost use lib.ListN.{length, getD};
+ghost use Rattle.frame.specs.Hex.{Digits, lineOf};
 ghost use Rattle.frame.specs.Written.{answerLine, moveLine};
 ghost use Rattle.frame.specs.Puts.{puts, LinePut, byteText};
-use crate::hex::hex_digit;
 use crate::number::bits;
 use std::num;
 
@@ -44,27 +43,46 @@ fn room(len: usize, at: usize) -> usize
     if at <= len { len - at } else { 0 }
 }
 
-fn put_byte(out: &mut [u8], at: usize, b: u8)
-    requires { ⌜ at + 2 ≤ length (now out) ⌝ }
+fn put_byte(out: &mut [u8], at: usize, b: u8, digits: &[u8])
+    requires { ⌜ (at + 2 ≤ length (now out)) × Digits (now digits) ⌝ }
     ensures { λ _. ⌜ now (out .exit) ≡ puts (now (out .entry)) at (byteText b) ⌝ }
 {
-    out[at] = hex_digit(b / 16 % 16);
-    out[at + 1] = hex_digit(b % 16);
+    out[at] = digits[(b / 16 % 16) as usize];
+    out[at + 1] = digits[(b % 16) as usize];
 }
 
-// A frame's bytes, the byte that makes their sum 0, a line feed.
+// A frame's bytes, the byte that makes their sum 0, a line feed. The digits are laid out once for a line: a table is read quicker than a digit is
+// worked out.
 fn put_line(out: &mut [u8], at: usize, bytes: &[u8])
     requires { ⌜ at + 2 * length (now bytes) + 3 ≤ length (now out) ⌝ }
     ensures { λ _. ⌜ now (out .exit) ≡ puts (now (out .entry)) at (lineOf (now (bytes .entry))) ⌝ }
 {
+    let digits = [
+        b'0',
+        b'1',
+        b'2',
+        b'3',
+        b'4',
+        b'5',
+        b'6',
+        b'7',
+        b'8',
+        b'9',
+        b'A',
+        b'B',
+        b'C',
+        b'D',
+        b'E',
+        b'F',
+    ];
     let mut sum: u8 = 0;
     let mut i: usize = 0;
     while i < bytes.len() {
-        put_byte(out, at + 2 * i, bytes[i]);
+        put_byte(out, at + 2 * i, bytes[i], &digits);
         sum = num::wrapping_add_u8(sum, bytes[i]);
         i += 1;
     }
-    put_byte(out, at + 2 * i, num::wrapping_sub_u8(0, sum));
+    put_byte(out, at + 2 * i, num::wrapping_sub_u8(0, sum), &digits);
     out[at + 2 * i + 2] = 10;
 }
 
