@@ -15,7 +15,7 @@ use Rattle.frame.specs.Frame.{Frame, bad, header, bottom, top, one, two,
 use Rattle.frame.specs.declared.read.Order.{Order}
 use Rattle.frame.specs.declared.read.Said.{Said}
 use Rattle.frame.specs.declared.read.Said.the-variants.{Bad, Header, Bottom, Top}
-use Rattle.frame.specs.Puts.{puts, Filled, ReadIn}
+use Rattle.frame.specs.Puts.{puts, ColumnsRead, ReadIn}
 use Rattle.frame.proofs.Scan.{either, value-small, low-digit, digits-at, bytes-length, byte-place, sound-digits}
 use Rattle.frame.proofs.Puts.{fours-length}
 
@@ -177,7 +177,7 @@ module _ (s : List ℕ) (k : ℕ) (n : length s ≡ 8 * k + 8) (some : 1 ≤ k) 
   unfolding carrierOf
   carries row e = let q : k ≡ 0 → ⊥ = λ z. omega arith in simp (count-is e, ne-eqb _ _ q)
 
-  module _ (columns columns' : List ℤ) (line : ℕ) (good : Bool) (f : Filled s k columns good line columns') where
+  module _ (columns columns' : List ℤ) (line : ℕ) (good : Bool) (f : ColumnsRead s k columns good line columns') where
     bottom-frame : getD s 1 0 ≡ 49 → good ≡ true → textFrame s ≡ bottom (one (bytesOf s) 1) (fours (bytesOf s) 3 k)
     unfolding textFrame kindOf valueOf isDigit
     bottom-frame y g =
@@ -262,7 +262,7 @@ module _ (s bytes : List ℕ) (ok : Bool) (d : Decoded s ok bytes) where
 
   module _ (k : ℕ) (columns : List ℤ) where
     pub filled : length s ≡ 8 * k + 8 → ok ≡ true → (line says : ℕ) → line ≡ one bytes 1 → says ≡ one bytes 2 → says ≡ k → (columns' : List ℤ) → columns' ≡ puts columns 0 (fours bytes 3 k)
-        → Filled s k columns true line columns'
+        → ColumnsRead s k columns true line columns'
     filled n g line says el es ek columns' ec =
         record {
           is = λ _. (
@@ -274,14 +274,14 @@ module _ (s bytes : List ℕ) (ok : Bool) (d : Decoded s ok bytes) where
           not = λ z. absurd (false≢true (sym z));
         }
 
-    pub not-said : length s ≡ 8 * k + 8 → ok ≡ true → (says : ℕ) → says ≡ one bytes 2 → (says ≡ k → ⊥) → Filled s k columns false 0 columns
+    pub not-said : length s ≡ 8 * k + 8 → ok ≡ true → (says : ℕ) → says ≡ one bytes 2 → (says ≡ k → ⊥) → ColumnsRead s k columns false 0 columns
     not-said n g says es ek =
         record {
           is = λ z. absurd (false≢true z);
           not = λ _. (refl, λ _ e. ek (es ∙ byte-in (bytesOf s) bytes (length s / 2) 2 (d .laid g) (omega arith) ∙ e));
         }
 
-    pub not-sound : ok ≡ false → Filled s k columns false 0 columns
+    pub not-sound : ok ≡ false → ColumnsRead s k columns false 0 columns
     not-sound g = record { is = λ z. absurd (false≢true z); not = λ _. (refl, λ h _. false≢true (sym g ∙ d .sound ∙ h)) }
 
 -- ---- the line feed

@@ -24,7 +24,7 @@ pub record LinePut (line out : List ℕ) (at to : ℕ) (out' : List ℕ) : Type 
   pub full : length out < at + length line → (to ≡ at) × (out' ≡ out)
 
 -- the columns of a text that has the length for k of them, if it is sound and says k; else nothing is changed
-pub record Filled (text : List ℕ) (k : ℕ) (columns : List ℤ) (good : Bool) (line : ℕ) (columns' : List ℤ) : Type 0 where
+pub record ColumnsRead (text : List ℕ) (k : ℕ) (columns : List ℤ) (good : Bool) (line : ℕ) (columns' : List ℤ) : Type 0 where
   pub is : good ≡ true → (isSound text ≡ true) × (one (bytesOf text) 2 ≡ k) × (line ≡ one (bytesOf text) 1) × (columns' ≡ puts columns 0 (fours (bytesOf text) 3 k))
   pub not : good ≡ false → (columns' ≡ columns) × (isSound text ≡ true → one (bytesOf text) 2 ≡ k → ⊥)
 

@@ -3,7 +3,7 @@ ghost use mathlib.Core.Path.{_≡_};
 ghost use Prim.Native.Nat.{_+_, _*_, _≤_, _<_};
 ghost use lib.ListN.{length};
 ghost use Rattle.frame.specs.Frame.{one, two, four, fours, textFrame, frameOf, saidOf};
-ghost use Rattle.frame.specs.Puts.{puts, Filled, ReadIn};
+ghost use Rattle.frame.specs.Puts.{puts, ColumnsRead, ReadIn};
 use crate::hex::decode;
 use crate::number::signed;
 
@@ -97,7 +97,7 @@ struct Filling {
 // The columns of a text that has the length for k of them, if it is sound and says k.
 fn fill(text: &[u8], k: usize, columns: &mut [i32]) -> Filling
     requires { ⌜ (length (now text) ≡ 8 * k + 8) × (k ≤ 16) × (length (now columns) ≡ 16) ⌝ }
-    ensures { λ r. ⌜ Filled (now (text .entry)) k (now (columns .entry)) (r .good) (r .line) (now (columns .exit)) ⌝ }
+    ensures { λ r. ⌜ ColumnsRead (now (text .entry)) k (now (columns .entry)) (r .good) (r .line) (now (columns .exit)) ⌝ }
 {
     let mut bytes = [0u8; 68];
     if decode(text, &mut bytes) {

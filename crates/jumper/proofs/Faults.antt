@@ -22,8 +22,8 @@ use Rattle.jumper.specs.declared.rows.Checked.the-variants.{Accepted, Re
 pub below-out : (x : ℤ) → ltZ x firstColumn ≡ true → (true ≡ false) ↔ AcceptedColumn x
 below-out x h = ((λ e. untrue (sym e)), (λ c. sym h ∙ lt-false x firstColumn (c .low)))
 
-pub range-exactly : (x : ℤ) → ltZ x firstColumn ≡ false → (ltZ lastColumn x ≡ false) ↔ AcceptedColumn x
-range-exactly x h = ((λ e. record { low = false-lt x firstColumn h; high = false-lt lastColumn x e }), (λ c. lt-false lastColumn x (c .high)))
+pub column-exactly : (x : ℤ) → ltZ x firstColumn ≡ false → (ltZ lastColumn x ≡ false) ↔ AcceptedColumn x
+column-exactly x h = ((λ e. record { low = false-lt x firstColumn h; high = false-lt lastColumn x e }), (λ c. lt-false lastColumn x (c .high)))
 
 -- a column out of range breaks one of the two tests
 outside : (x : ℤ) (r s : Checked) → (AcceptedColumn x → ⊥) → pick (ltZ x firstColumn) r (pick (ltZ lastColumn x) r s) ≡ r

@@ -51,7 +51,7 @@ fn falls(a: &[i32]) -> u32
 }
 
 // Whether a row rises from an accepted column to an accepted column.
-fn is_sound(a: &[i32]) -> bool
+fn is_faultless(a: &[i32]) -> bool
     requires { ⌜ (0 < length (now a)) × (length (now a) ≤ maxPairs) ⌝ }
     ensures { λ r. ⌜ (r ≡ true → AcceptedRow (now (a .entry))) ⌝ }
 {
@@ -106,7 +106,7 @@ fn row_fault(a: &[i32], base: usize) -> Checked
     requires { ⌜ (base ≤ maxPairs) × (0 < length (now a)) × (length (now a) ≤ maxPairs) ⌝ }
     ensures { λ r. ⌜ r ≡ rowFault base (now (a .entry)) ⌝ }
 {
-    if is_sound(a) {
+    if is_faultless(a) {
         return Checked::Accepted;
     }
     seek_fault(a, base)

@@ -9,7 +9,7 @@ ghost use Rattle.jumper.specs.Limits.{maxTracks, AcceptedOffset};
 ghost use Rattle.jumper.specs.Rows.{AcceptedRow};
 
 // The column of bottom pad k, t columns to its left.
-fn ahead(a: &[i32], k: usize, t: usize) -> i32
+fn left_of(a: &[i32], k: usize, t: usize) -> i32
     requires { ⌜ AcceptedRow (now a) × (k < length (now a)) × (t ≤ maxTracks) ⌝ }
     ensures { λ r. ⌜ r ≡ pad (now (a .entry)) k -ℤ pos t ⌝ }
 {
@@ -17,7 +17,7 @@ fn ahead(a: &[i32], k: usize, t: usize) -> i32
 }
 
 // The column of bottom pad k, t columns to its right.
-fn behind(a: &[i32], k: usize, t: usize) -> i32
+fn right_of(a: &[i32], k: usize, t: usize) -> i32
     requires { ⌜ AcceptedRow (now a) × (k < length (now a)) × (t ≤ maxTracks) ⌝ }
     ensures { λ r. ⌜ r ≡ pad (now (a .entry)) k +ℤ pos t ⌝ }
 {
@@ -44,10 +44,10 @@ pub(crate) fn column(a: &[i32], c: i32, i: usize, t: usize) -> i32
         if i < t {
             return c;
         }
-        return whole::larger(c, behind(a, i - t, t));
+        return whole::larger(c, right_of(a, i - t, t));
     }
     if i + t < a.len() {
-        return whole::smaller(c, ahead(a, i + t, t));
+        return whole::smaller(c, left_of(a, i + t, t));
     }
     c
 }

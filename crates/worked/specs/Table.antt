@@ -71,8 +71,8 @@ drawnAt j s d = allDrawn (j .bottom) (j .top) s d []
 abbrev pub least : (separation pair side : ℕ) → List ℤ
 least s i k = result 0 0 0 s (pos 0) (pos 0) i k 0
 
-abbrev pub noFit : (pair side : ℕ) → List ℤ
-noFit i k = result 10 0 0 0 (pos 0) (pos 0) i k 0
+abbrev pub prevented : (pair side : ℕ) → List ℤ
+prevented i k = result 10 0 0 0 (pos 0) (pos 0) i k 0
 
 abbrev pub range : (lowest highest : ℤ) → List ℤ
 range l h = result 0 0 0 0 l h 0 0 0
@@ -90,12 +90,12 @@ table =
     ∷ case (leastAt (rows (0 ∷ []) (9 ∷ [])) (pos 0)) (least 1 0 1)
     -- "0,1 and 1,2, d 0: least 2; at s 1 NOFIT, pair 0, RIGHT."
     ∷ case (leastAt (rows (0 ∷ 1 ∷ []) (1 ∷ 2 ∷ [])) (pos 0)) (least 2 0 1)
-    ∷ case (fitAt (rows (0 ∷ 1 ∷ []) (1 ∷ 2 ∷ [])) 1 (pos 0)) (noFit 0 1)
+    ∷ case (fitAt (rows (0 ∷ 1 ∷ []) (1 ∷ 2 ∷ [])) 1 (pos 0)) (prevented 0 1)
     -- "K: range at 0 is 0..0; at 1 is -4..4; d 5, least 2; (1, -5) NOFIT, pair 0, LEFT."
     ∷ case (rangeAt K 0) (range (pos 0) (pos 0))
     ∷ case (rangeAt K 1) (range (negsuc 3) (pos 4))
     ∷ case (leastAt K (pos 5)) (least 2 0 1)
-    ∷ case (fitAt K 1 (negsuc 4)) (noFit 0 2)
+    ∷ case (fitAt K 1 (negsuc 4)) (prevented 0 2)
     -- "S, d 0: least 4." "S best: 0, offsets -1..-1, count 12."
     ∷ case (leastAt S (pos 0)) (least 4 0 1)
     ∷ case (best S) (found 0 (negsuc 0) (negsuc 0) 12)

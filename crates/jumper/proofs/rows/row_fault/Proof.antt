@@ -4,11 +4,11 @@ use borrow.Author.Needs.{needs}
 use Rattle.jumper.proofs.rows.row_fault.Statement.{statement}
 use Rattle.jumper.proofs.rows.row_fault.Tie as tie
 
-is-sound-requires : tie.Need-is-sound-requires
-is-sound-requires c κs = search needs
+is-faultless-requires : tie.Need-is-faultless-requires
+is-faultless-requires c κs = search needs
 
 returns : tie.Need-returns
-returns c = sym (of-rowFault _ _ (c .before .is-sound .ensures (c .if1 .taken)))
+returns c = sym (of-rowFault _ _ (c .before .is-faultless .ensures (c .if1 .taken)))
 
 seek-fault-requires : tie.Need-seek-fault-requires
 seek-fault-requires c κs = search needs
@@ -17,4 +17,4 @@ returns-2 : tie.Need-returns-2
 returns-2 c = search needs
 
 pub row-fault-spec : {M : Type 1} → statement M
-row-fault-spec = tie.close (tie.spec is-sound-requires returns seek-fault-requires returns-2)
+row-fault-spec = tie.close (tie.spec is-faultless-requires returns seek-fault-requires returns-2)

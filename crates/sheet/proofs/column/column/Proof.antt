@@ -30,8 +30,8 @@ returns-2 c =
     let ea = back (pad (c .before .before .before .before .args .a .now) (c .before .before .before .before .args .i)) (c .before .before .if22 .given) in
     ec ∙ left-free _ (pad (c .before .before .before .before .args .a .now)) (c .before .before .before .before .args .c) (c .before .before .before .before .args .i) (c .before .before .before .before .args .t) (c .before .before .before .if1 .left) (rw (ec, ea) at (c .before .if2 .taken)) (c .if3 .taken)
 
-behind-requires : tie.Need-behind-requires
-behind-requires c κs = let q = c .before .before .before .before .pre in (q .0, omega arith, q .2)
+right-of-requires : tie.Need-right-of-requires
+right-of-requires c κs = let q = c .before .before .before .before .pre in (q .0, omega arith, q .2)
 
 larger-requires : tie.Need-larger-requires
 larger-requires c κs = search needs
@@ -41,16 +41,16 @@ returns-3 c =
     let ec = toZ-ofZ w32 (c .before .before .before .before .before .before .args .c) (c .before .before .before .before .before .before .fits .c) in
     let ea = back (pad (c .before .before .before .before .before .before .args .a .now) (c .before .before .before .before .before .before .args .i)) (c .before .before .before .before .if22 .given) in
     left-held _ (pad (c .before .before .before .before .before .before .args .a .now)) (c .before .before .before .before .before .before .args .c) (c .before .before .before .before .before .before .args .i) (c .before .before .before .before .before .before .args .t) (c .before .before .before .before .before .if1 .left) (rw (ec, ea) at (c .before .before .before .if2 .taken)) (c .before .before .if3 .left) _
-    (back (c .larger .result) (c .larger .ok) ∙ (rw (ec, back (c .before .behind .result) (c .before .behind .ok), c .before .behind .ensures) at (c .larger .ensures)))
+    (back (c .larger .result) (c .larger .ok) ∙ (rw (ec, back (c .before .right-of .result) (c .before .right-of .ok), c .before .right-of .ensures) at (c .larger .ensures)))
 
 add-if4 : tie.Need-add-if4
 add-if4 c = search needs
 
-add-ahead : tie.Need-add-ahead
-add-ahead c = search needs
+add-left-of : tie.Need-add-left-of
+add-left-of c = search needs
 
-ahead-requires : tie.Need-ahead-requires
-ahead-requires c κs = let q = c .before .before .before .before .pre in (q .0, c .if4 .taken, q .2)
+left-of-requires : tie.Need-left-of-requires
+left-of-requires c κs = let q = c .before .before .before .before .pre in (q .0, c .if4 .taken, q .2)
 
 smaller-requires : tie.Need-smaller-requires
 smaller-requires c κs = search needs
@@ -60,7 +60,7 @@ returns-4 c =
     let ec = toZ-ofZ w32 (c .before .before .before .before .before .before .args .c) (c .before .before .before .before .before .before .fits .c) in
     let ea = back (pad (c .before .before .before .before .before .before .args .a .now) (c .before .before .before .before .before .before .args .i)) (c .before .before .before .before .if22 .given) in
     right-held _ (pad (c .before .before .before .before .before .before .args .a .now)) (c .before .before .before .before .before .before .args .c) (c .before .before .before .before .before .before .args .i) (c .before .before .before .before .before .before .args .t) (c .before .before .before .before .before .if1 .left) (rw (ec, ea) at (c .before .before .before .if2 .left)) (c .before .before .if4 .taken) _
-    (back (c .smaller .result) (c .smaller .ok) ∙ (rw (ec, back (c .before .ahead .result) (c .before .ahead .ok), c .before .ahead .ensures) at (c .smaller .ensures)))
+    (back (c .smaller .result) (c .smaller .ok) ∙ (rw (ec, back (c .before .left-of .result) (c .before .left-of .ok), c .before .left-of .ensures) at (c .smaller .ensures)))
 
 returns-5 : tie.Need-returns-5
 returns-5 c =
@@ -78,12 +78,12 @@ column-spec =
     mul-if2
     shared-slice-copy-out-if2
     returns-2
-    behind-requires
+    right-of-requires
     larger-requires
     returns-3
     add-if4
-    add-ahead
-    ahead-requires
+    add-left-of
+    left-of-requires
     smaller-requires
     returns-4
     returns-5)

@@ -5,8 +5,8 @@ use Rattle.whole.proofs.Machine.{back}
 use Rattle.wiring.specs.Wiring.{pad}
 use Rattle.jumper.proofs.Accepted.{sound-row}
 use borrow.Author.Needs.{needs}
-use Rattle.jumper.proofs.rows.is_sound.Statement.{statement}
-use Rattle.jumper.proofs.rows.is_sound.Tie as tie
+use Rattle.jumper.proofs.rows.is_faultless.Statement.{statement}
+use Rattle.jumper.proofs.rows.is_faultless.Tie as tie
 
 falls-requires : tie.Need-falls-requires
 falls-requires c κs = search needs
@@ -40,8 +40,8 @@ returns-4 c =
     let high = rw (back (pad a (length a - 1)) (c .before .if32 .given)) at (c .if3 .left) in
     λ e. sound-row a (k .before .pre .0) (k .falls .ensures (c .before .before .before .before .if1 .left)) (false-lt _ _ low) (false-lt _ _ high)
 
-pub is-sound-spec : {M : Type 1} → statement M
-is-sound-spec =
+pub is-faultless-spec : {M : Type 1} → statement M
+is-faultless-spec =
     tie.close
     (tie.spec
     falls-requires
