@@ -30,7 +30,7 @@ take-puts {A} l at (v ∷ vs) h =
     ∙ ap (λ (p : List A). p ++ vs) t
     ∙ append-assoc (take at l) (v ∷ []) vs
 
-one : (s : List ℕ) (i : ℕ) → i < length s → drop i s ≡ getD s i 0 ∷ drop (i + 1) s
+pub one : (s : List ℕ) (i : ℕ) → i < length s → drop i s ≡ getD s i 0 ∷ drop (i + 1) s
 one s i h = drop-cons s i 0 h ∙ ap (λ (n : ℕ). getD s i 0 ∷ drop n s) (sym (add-one i))
 
 -- a run stored one by one: place to + j has element j

@@ -8,8 +8,9 @@ use native.Mathlib.Numerals.{add-one}
 use native.Mathlib.Omega.{arith}
 use lib.Dec.{ltb, eqb}
 use lib.ListN.{length, getD, drop, take, set, drop-of-length-le}
-use lib.Seq.{drop-cons, take-suc-set, getD-set-same, getD-set-other}
+use lib.Seq.{take-suc-set, getD-set-same, getD-set-other}
 use borrow.Author.Tests.{lt-ltb, le-ltb, eq-eqb, ne-eqb, ltb-true, ltb-false, eqb-true}
+use Rattle.frame.proofs.Puts.{one}
 use Rattle.frame.specs.Hex.{isDigit, valueOf, allDigits, bytesOf, total, isSound, DigitRead, WorthsRead, BytesLaid, Decoded, byteAt, bytesFrom}
 
 pub either {ℓ} : {P : Type ℓ} (b : Bool) → (b ≡ true → P) → (b ≡ false → P) → P
@@ -39,7 +40,7 @@ low-digit c v d e h =
 -- ---- all digits
 
 -- below the next is below, or it
-below-or : (j i : ℕ) → j < i + 1 → (j < i) ⊎ (j ≡ i)
+pub below-or : (j i : ℕ) → j < i + 1 → (j < i) ⊎ (j ≡ i)
 below-or j i h = either (ltb j i) (λ e. inl (ltb-true j i e)) (λ e. let g = ltb-false j i e in inr (omega arith))
 
 pub digits-all : (s : List ℕ) → ((i : ℕ) → i < length s → isDigit (getD s i 0) ≡ true) → allDigits s ≡ true
@@ -93,9 +94,6 @@ worths-end text worths most i h so =
     }
 
 -- ---- bytes by their places
-
-one : (s : List ℕ) (i : ℕ) → i < length s → drop i s ≡ getD s i 0 ∷ drop (i + 1) s
-one s i h = drop-cons s i 0 h ∙ ap (λ (n : ℕ). getD s i 0 ∷ drop n s) (sym (add-one i))
 
 pair : (s : List ℕ) (i : ℕ) → i + 1 < length s → drop i s ≡ getD s i 0 ∷ getD s (i + 1) 0 ∷ drop (i + 1 + 1) s
 pair s i h = one s i (omega arith) ∙ ap (λ (l : List ℕ). getD s i 0 ∷ l) (one s (i + 1) h)

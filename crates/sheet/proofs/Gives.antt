@@ -27,7 +27,7 @@ use Rattle.sheet.specs.Owes.{modeOf, seenBy, routeLeft, isAsked, cutText
 use Rattle.sheet.specs.Parts.{GivenOn, CutGiven, DueGiven, RouteOut, AskedOut}
 use Rattle.sheet.specs.Steps.{isHeld}
 use Rattle.sheet.specs.declared.state.State.{State}
-use Rattle.sheet.proofs.Lines.{either}
+use Rattle.frame.proofs.Scan.{either}
 use Rattle.sheet.proofs.Routes.{route-end}
 
 -- ---- a frame 20, written or not

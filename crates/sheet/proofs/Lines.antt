@@ -11,18 +11,11 @@ use lib.ListN.{length, getD, drop, take, set, length-set, length-append, length-
 use lib.Seq.{drop-cons, take-suc-set, take-all, drop-drop, getD-take, getD-drop, length-take-le}
 use borrow.Author.Tests.{eq-eqb, ne-eqb, eqb-false, eqb-true, ltb-true, ltb-false}
 use Rattle.frame.specs.Frame.{Frame, bad, textFrame, isFed, frameOf}
+use Rattle.frame.proofs.Scan.{either, below-or}
 use Rattle.frame.proofs.Frames.{long-bad, fed-frame, fed-last, unfed-bad}
 use Rattle.sheet.specs.Lines.{lastLine, linesFrom, linesOf}
 use Rattle.sheet.specs.Owes.{lastFrame, framesFrom}
 use Rattle.sheet.specs.Parts.{StoredIn, FeedAt, Kept, LineFound, textIn}
-
-pub either {ℓ} : {P : Type ℓ} (b : Bool) → (b ≡ true → P) → (b ≡ false → P) → P
-either true f g = f refl
-either false f g = g refl
-
--- below the next is below, or it
-below-or : (j i : ℕ) → j < i + 1 → (j < i) ⊎ (j ≡ i)
-below-or j i h = either (ltb j i) (λ e. inl (ltb-true j i e)) (λ e. let g = ltb-false j i e in inr (omega arith))
 
 -- ---- the frames of the lines of a sheet
 

@@ -26,7 +26,7 @@ use Rattle.whole.specs.Pick.{differ}
 use Rattle.sheet.specs.Route.{moveText, trackText, wireText, wiresText}
 use Rattle.sheet.specs.Owes.{routeLeft}
 use Rattle.sheet.specs.Parts.{RouteOut, WireOut, TrackOut}
-use Rattle.sheet.proofs.Lines.{either}
+use Rattle.frame.proofs.Scan.{either}
 
 -- ---- the column of a wire on a track, as the code picks it
 

@@ -40,7 +40,8 @@ use Rattle.sheet.specs.Parts.{Reacted, TakenIn, LineFound, textIn}
 use Rattle.sheet.specs.declared.state.Phase.{Phase}
 use Rattle.sheet.specs.declared.state.Phase.the-variants.{Ready, Inside, Skipping}
 use Rattle.sheet.specs.declared.state.State.{State}
-use Rattle.sheet.proofs.Lines.{either, sheet-frames}
+use Rattle.frame.proofs.Scan.{either}
+use Rattle.sheet.proofs.Lines.{sheet-frames}
 use Rattle.sheet.proofs.Noted.{with-line}
 
 -- ---- the machine asks of `seen` only numbers below 64
