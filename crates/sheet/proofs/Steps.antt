@@ -84,9 +84,6 @@ machine-agree f g h m (x ∷ fs) =
 
 -- ---- what a state has to write
 
-no-wires : (k : Answer) (i t : ℕ) → cond (isAsked [] [] (k .separation) (k .lowest)) (routeLeft (k .line) (k .separation) (k .lowest) [] [] i t) [] ≡ []
-no-wires k i t = refl
-
 pub quiet-none : (p : Phase) (o : Order) (i j seen : ℕ) (a b : List ℤ) → pending (quietBy p o i j seen) a b ≡ []
 unfolding pending leftText
 quiet-none p o i j seen a b = refl
