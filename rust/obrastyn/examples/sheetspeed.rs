@@ -1,6 +1,6 @@
-//! Speed of the program `answersheet` against `sheetbase`, a plain Rust program that does the same, in one run: a sheet of 64
-//! lines of 2,048 pairs with a dense route, one with a sparse route, and 50 megabytes of damaged lines.
-//! `cargo build --release --offline && cargo run --release --offline --example sheetspeed`, after `rt check answersheet`.
+//! Speed of the program `answersheet` against `sheetbase`, a plain Rust program that does the same, in one run: sheets of 64 lines of
+//! 2,048 pairs with sparse routes (a move or none a wire), with dense ones (40 moves a wire) and with as many tracks as there can be,
+//! and 50 megabytes of damaged lines. `rust/speed` builds all it needs and runs it.
 use reference::sheet::{frame_10, frame_11, frame_12};
 use std::fs::File;
 use std::io::Write;
@@ -29,14 +29,20 @@ fn main() {
     let root = concat!(env!("CARGO_MANIFEST_DIR"), "/../..");
     let ours = format!("{root}/target/bin/answersheet");
     let plain = format!("{root}/rust/target/release/sheetbase");
-    let few = sheet(|i| 32 * i - i % 2, |i| 32 * i + i % 3);
-    let many = sheet(|i| i, |i| i + 1);
+    let sparse = sheet(|i| 32 * i - i % 2, |i| 32 * i + i % 3);
+    let dense = sheet(|i| 2 * i, |i| 2 * i + 40);
+    let long = sheet(|i| i, |i| i + 1);
     let mut damaged = Vec::new();
     while damaged.len() < 50_000_000 {
         damaged.extend_from_slice(b"1100020000000000000001ED\n10000002FFFF0000000\nnothing of a frame\n1000000200000000000EEE\n");
     }
     println!("{:44} {:>12} {:>12} {:>7}", "sheet", "ours, s", "plain, s", "ratio");
-    for (name, bytes) in [("64 lines of 2048 pairs, few tracks", few), ("64 lines of 2048 pairs, 2048 tracks", many), ("50 MB of damaged lines", damaged)] {
+    for (name, bytes) in [
+        ("64 lines of 2048 pairs, sparse routes", sparse),
+        ("64 lines of 2048 pairs, dense routes", dense),
+        ("64 lines of 2048 pairs, 2048 tracks", long),
+        ("50 MB of damaged lines", damaged),
+    ] {
         let path = std::env::temp_dir().join("obrastyn-sheet");
         let path = path.to_str().unwrap();
         File::create(path).unwrap().write_all(&bytes).unwrap();
