@@ -90,16 +90,15 @@ pub record Fresh (s : State) : Type 0 where
   pub owed : (line : List ℕ) (a b : List ℤ) (sheet : List ℕ) → owes s line a b sheet ≡ answers sheet
 
 -- What `feed` promises: a piece of the sheet is taken in as far as `used`, and what it calls for stands in the buffer from place `from` to place
--- `to`. It stops before the piece ends only where fewer than 35 places are left, the length of the
--- longest frame.
+-- `to`, which is within the buffer if `from` was. It stops before the piece ends only where fewer than 35 places are left, the length of a frame 20.
 pub record Fed (s : State) (line : List ℕ) (a b : List ℤ) (piece out : List ℕ) (from : ℕ) (r : State) (used to : ℕ) (line' : List ℕ) (a' b' : List ℤ) (out' : List ℕ) : Type 0 where
   pub owed : (rest : List ℕ) → take from out ++ owes s line a b (piece ++ rest) ≡ take to out' ++ owes r line' a' b' (drop used piece ++ rest)
   pub within : used ≤ length piece
   pub fits : from ≤ length out → to ≤ length out
   pub far : used < length piece → length out < to + 35
 
--- What `give` promises: what is still to write stands in the buffer from place `from` to place `to`. It stops
--- only where fewer than 35 places are left, the length of the longest frame.
+-- What `give` promises: what is still to write stands in the buffer from place `from` to place `to`, which is
+-- within the buffer if `from` was. It stops only where fewer than 35 places are left, the length of a frame 20.
 pub record Given (s : State) (a b : List ℤ) (out : List ℕ) (from : ℕ) (r : State) (to : ℕ) (out' : List ℕ) : Type 0 where
   pub gave : take from out ++ pending s a b ≡ take to out' ++ pending r a b
   pub same : (line rest : List ℕ) → later r line a b rest ≡ later s line a b rest

@@ -1,5 +1,5 @@
-// Where a line ends. Most of a sheet's bytes are only looked through for their line feed, so that is done 64 bytes at a time, in a loop that has one
-// way out and becomes one over vectors.
+// Where a line ends. Every byte of a sheet is looked at for this, so it is done 64 bytes at a time, in a loop that has one way out and becomes one
+// over vectors.
 ghost use mathlib.Core.Path.{_≡_};
 ghost use mathlib.Core.Logic.{_⊎_};
 ghost use Prim.Native.Nat.{ℕ, _≤_, _<_};
