@@ -36,6 +36,7 @@ module _ (a b : List ℤ) (before : List ℕ) where
         buffer = refl;
         accepts = ((λ q. absurd (numbered f q)), (λ w. absurd (none (w .0) (w .1))));
         short = short;
+        refused = λ q. refl;
         exactly = λ q. absurd (numbered f q);
         some = λ q. absurd (numbered f q);
         none = λ q. absurd (numbered f q);
@@ -73,6 +74,7 @@ module _ (a b : List ℤ) (before : List ℕ) where
           buffer = i .ladder;
           accepts = ((λ q. (rows, h)), (λ w. refl));
           short = ((λ q. absurd (omega arith)), (λ w. absurd (omega (arith, w .1))));
+          refused = λ q. absurd (q refl);
           exactly = λ q d.
               let s = halvingOf a b .best in
               let r = range-exactly (length a) (leanOf a) (leanOf b) s inside d in

@@ -62,6 +62,8 @@ pub record BestAnswer (a b : List ℤ) (before after : List ℕ) (r : Best) : Ty
   -- no refusal exactly for accepted rows and room enough; BUFFER exactly for accepted rows and too little room
   pub accepts : (bestNumbers r .refusal ≡ 0) ↔ (AcceptedRows a b × (length (ladderOf a b) ≤ length before))
   pub short : (bestNumbers r .refusal ≡ 9) ↔ (AcceptedRows a b × (length before < length (ladderOf a b)))
+  -- a refusal writes nothing
+  pub refused : (bestNumbers r .refusal ≡ 0 → ⊥) → after ≡ before
   -- a legal wiring exists at the best separation at exactly the whole-number offsets of the range, and the range isn't empty
   pub exactly : bestNumbers r .refusal ≡ 0 → (d : ℤ) → HasWiring a b (bestNumbers r .separation) d ↔ Within d (rangeNamed (bestNumbers r))
   pub some : bestNumbers r .refusal ≡ 0 → bestNumbers r .lowest ≤ℤ bestNumbers r .highest

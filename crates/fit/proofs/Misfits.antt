@@ -13,7 +13,7 @@ use lib.Signed.{_≤ℤ_, _<ℤ_}
 use Rattle.whole.proofs.Arith.{up, down, arithℤ}
 use Rattle.whole.proofs.Order.{true-lt, false-lt}
 use Rattle.wiring.specs.Wiring.{pad, HasWiring}
-use Rattle.wiring.specs.Fit.{leanOf, lowEnd, highEnd, Fits}
+use Rattle.wiring.specs.Fit.{leanOf, lowEnd, highEnd, Fits, TooRight, TooLeft}
 use Rattle.wiring.proofs.Rule.{right-breaks, left-breaks}
 use Rattle.wiring.proofs.Theorem.{fit-exactly}
 use Rattle.jumper.specs.Rows.{AcceptedRows}
@@ -26,7 +26,7 @@ use Rattle.jumper.specs.declared.rows.Checked.the-variants.{Accepted, Refused}
 use Rattle.jumper.proofs.Wired.{wiring-exactly}
 use Rattle.jumper.proofs.Accepted.{numbered, refused-not}
 use Rattle.jumper.proofs.Checks.{accepted-asked, asked-accepted, early-asked}
-use Rattle.fit.specs.Misfit.{tooRight, tooLeft, misfitFrom, misfitOf, noFit, Witness, FitAnswer}
+use Rattle.fit.specs.Misfit.{tooRight, tooLeft, misfitFrom, misfitOf, noFit, PadsPrevent, Witness, FitAnswer}
 use Rattle.fit.specs.declared.misfit.Misfit.{Misfit}
 use Rattle.fit.specs.declared.misfit.Misfit.the-variants.{None, At}
 
@@ -83,16 +83,28 @@ none-fits a b s d e =
     let f = rw e at (found (leanOf a) (leanOf b) s d 0 (length a - s)) in
     record { low = λ i h. f i (omega arith) (omega arith) .low; high = λ i h. f i (omega arith) (omega arith) .high }
 
+-- THE TWO PADS prevent it, in any accepted rows: what breaks the rule at pair i are these two columns alone
+module _ (a b : List ℤ) (s : ℕ) (d : ℤ) (i : ℕ) where
+  pub right-pads : TooRight (length a) s (leanOf a) (leanOf b) d i → PadsPrevent a b s d (i + s) i
+  right-pads r a' b' k n e f w = right-breaks {i = i} (record { inside = rw n (r .inside); above = rw (e, f) (r .above) }) (wiring-exactly k s d .0 w)
+
+  pub left-pads : TooLeft (length a) s (leanOf a) (leanOf b) d i → PadsPrevent a b s d i (i + s)
+  left-pads l a' b' k n e f w = left-breaks {i = i} (record { inside = rw n (l .inside); under = rw (e, f) (l .under) }) (wiring-exactly k s d .0 w)
+
 witness-of : (a b : List ℤ) (s : ℕ) (d : ℤ) (i : ℕ) (k : Side) → Found (leanOf a) (leanOf b) s d 0 (length a - s) (At i k) → Witness a b s d i (sideNumber k)
 witness-of a b s d i Right f =
+    let r : TooRight (length a) s (leanOf a) (leanOf b) d i = record { inside = omega (arith, f .2); above = f .0 } in
     record {
-      breaks = inl (refl, record { inside = omega (arith, f .2); above = f .0 });
+      breaks = inl (refl, r);
       least = λ j h. let g = f .3 j (omega arith) h in ((λ r. omega (arithℤ, r .above, g .high)), (λ l. omega (arithℤ, l .under, g .low)));
+      pads = inl (refl, right-pads a b s d i r);
     }
 witness-of a b s d i Left f =
+    let l : TooLeft (length a) s (leanOf a) (leanOf b) d i = record { inside = omega (arith, f .2); under = f .0 } in
     record {
-      breaks = inr (refl, record { inside = omega (arith, f .2); under = f .0 });
+      breaks = inr (refl, l);
       least = λ j h. let g = f .3 j (omega arith) h in ((λ r. omega (arithℤ, r .above, g .high)), (λ l. omega (arithℤ, l .under, g .low)));
+      pads = inr (refl, left-pads a b s d i l);
     }
 
 pub at-witness : (a b : List ℤ) (s : ℕ) (d : ℤ) (i : ℕ) (k : Side) → misfitOf a b s d ≡ At i k → Witness a b s d i (sideNumber k)
@@ -122,20 +134,20 @@ fits-none a b s d f = go (misfitOf a b s d) refl
 -- WHAT `fit` PROMISES, from its answer
 by-misfit : (a b : List ℤ) (s : ℕ) (d : ℤ) → Asked a b s d → (m : Misfit) → misfitOf a b s d ≡ m → FitAnswer a b s d (noFit m)
 by-misfit a b s d k None e =
+    let w = wiring-exactly (k .rows) s d .1 (none-fits a b s d e) in
     record {
       answer = sym (rw (asked-accepted a b s d k, e));
-      fits = ((λ z. (k, wiring-exactly (k .rows) s d .1 (none-fits a b s d e))), (λ z. refl));
-      asked = λ z. k;
-      prevents = λ z. absurd (omega arith);
+      fits = ((λ z. (k, w)), (λ z. refl));
+      prevents = ((λ z. absurd (omega arith)), (λ z. absurd (z .1 w)));
       witness = λ z. absurd (omega arith);
     }
 by-misfit a b s d k (At i side) e =
     let w = at-witness a b s d i side e in
+    let none : HasWiring a b s d → ⊥ = λ h. witness-breaks w (wiring-exactly (k .rows) s d .0 h) in
     record {
       answer = sym (rw (asked-accepted a b s d k, e));
-      fits = ((λ z. absurd (omega arith)), (λ z. absurd (witness-breaks w (wiring-exactly (k .rows) s d .0 (z .1)))));
-      asked = λ z. k;
-      prevents = λ z h. witness-breaks w (wiring-exactly (k .rows) s d .0 h);
+      fits = ((λ z. absurd (omega arith)), (λ z. absurd (none (z .1))));
+      prevents = ((λ z. (k, none)), (λ z. refl));
       witness = λ z. w;
     }
 
@@ -143,11 +155,11 @@ by-misfit a b s d k (At i side) e =
 pub fit-refused : (a b : List ℤ) (s : ℕ) (d : ℤ) (r : Refusal) → checkAsked a b s d ≡ Refused r → FitAnswer a b s d (Refused r)
 fit-refused a b s d r e =
     let l = rw e at (early-asked a b s d) in
+    let not : Asked a b s d → ⊥ = λ k. refused-not r (sym e ∙ asked-accepted a b s d k) in
     record {
       answer = sym (rw e);
-      fits = ((λ z. absurd (numbered r z)), (λ z. absurd (refused-not r (sym e ∙ asked-accepted a b s d (z .0)))));
-      asked = λ z. absurd (omega arith);
-      prevents = λ z. absurd (omega arith);
+      fits = ((λ z. absurd (numbered r z)), (λ z. absurd (not (z .0))));
+      prevents = ((λ z. absurd (omega arith)), (λ z. absurd (not (z .0))));
       witness = λ z. absurd (omega arith);
     }
 

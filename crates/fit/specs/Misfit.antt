@@ -3,13 +3,13 @@ use mathlib.Core.Bool.{Bool, true, false, cond}
 use mathlib.Core.Path.{_≡_}
 use mathlib.Core.List.{List}
 use mathlib.Core.Logic.{_⊎_, _↔_}
-use Prim.Native.Nat.{ℕ, zero, suc, _-_, _<_}
+use Prim.Native.Nat.{ℕ, zero, suc, _+_, _-_, _<_}
 use lib.ListN.{length}
 use lib.IntN.{ℤ}
 use lib.Signed.{ltZ}
-use Rattle.wiring.specs.Wiring.{HasWiring}
+use Rattle.wiring.specs.Wiring.{pad, HasWiring}
 use Rattle.wiring.specs.Fit.{leanOf, lowEnd, highEnd, TooRight, TooLeft}
-use Rattle.jumper.specs.Rows.{checkedNumbers, orElse}
+use Rattle.jumper.specs.Rows.{AcceptedRows, checkedNumbers, orElse}
 use Rattle.jumper.specs.Asked.{checkAsked, Asked}
 use Rattle.jumper.specs.declared.refusal.Side.{Side}
 use Rattle.jumper.specs.declared.refusal.Side.the-variants.{Right, Left}
@@ -46,15 +46,22 @@ noFit (At i k) = Refused (NoFit i k)
 abbrev pub fitOf : (a b : List ℤ) (s : ℕ) (d : ℤ) → Checked
 fitOf a b s d = orElse (checkAsked a b s d) (noFit (misfitOf a b s d))
 
+-- Bottom pad i and top pad j of rows a and b prevent a wiring at (s, d): accepted rows of as many pairs that have these two pads at the same columns have
+-- no legal wiring there, whatever their other pads
+abbrev pub PadsPrevent : (a b : List ℤ) (s : ℕ) (d : ℤ) (i j : ℕ) → Type 0
+PadsPrevent a b s d i j = (a' b' : List ℤ) → AcceptedRows a' b' → length a' ≡ length a → pad a' i ≡ pad a i → pad b' j ≡ pad b j → HasWiring a' b' s d → ⊥
+
 -- the witness, by 01's numbers: pair i breaks the rule on its side (1 RIGHT, 2 LEFT), and no pair before it breaks it
 pub record Witness (a b : List ℤ) (s : ℕ) (d : ℤ) (i side : ℕ) : Type 0 where
   pub breaks : ((side ≡ 1) × TooRight (length a) s (leanOf a) (leanOf b) d i) ⊎ ((side ≡ 2) × TooLeft (length a) s (leanOf a) (leanOf b) d i)
   pub least : (j : ℕ) → j < i → (TooRight (length a) s (leanOf a) (leanOf b) d j → ⊥) × (TooLeft (length a) s (leanOf a) (leanOf b) d j → ⊥)
+  -- "top pad i is too far right for bottom pad i+s", and its mirror: these are the two pads that prevent a wiring
+  pub pads : ((side ≡ 1) × PadsPrevent a b s d (i + s) i) ⊎ ((side ≡ 2) × PadsPrevent a b s d i (i + s))
 
--- What `fit` promises. Demand 2: it says "fits" exactly when a legal wiring exists; otherwise it names the pads that prevent it.
+-- What `fit` promises. Demand 2: it says "fits" exactly when all is accepted and a legal wiring exists, and NOFIT exactly when all is accepted and none
+-- does; then it names the pads that prevent it.
 pub record FitAnswer (a b : List ℤ) (s : ℕ) (d : ℤ) (r : Checked) : Type 0 where
   pub answer : r ≡ fitOf a b s d
   pub fits : (checkedNumbers r .refusal ≡ 0) ↔ (Asked a b s d × HasWiring a b s d)
-  pub asked : checkedNumbers r .refusal ≡ 10 → Asked a b s d
-  pub prevents : checkedNumbers r .refusal ≡ 10 → HasWiring a b s d → ⊥
+  pub prevents : (checkedNumbers r .refusal ≡ 10) ↔ (Asked a b s d × (HasWiring a b s d → ⊥))
   pub witness : checkedNumbers r .refusal ≡ 10 → Witness a b s d (checkedNumbers r .pair) (checkedNumbers r .side)

@@ -126,14 +126,16 @@ module _ (a b : List ℤ) (s : ℕ) (d : ℤ) (wire : ℕ) (out : List ℤ) wher
   pub wire-early : (r : Refusal) → checkAsked a b s d ≡ Refused r → DrawWireAnswer a b s d wire out out (Refused r)
   wire-early r e =
       let l = rw e at (early-asked a b s d) in
+      let not : Asked a b s d → ⊥ = λ k. refused-not r (sym e ∙ asked-accepted a b s d k) in
       record {
         answer = sym (rw e);
         buffer = refl;
-        draws = ((λ z. absurd (numbered r z)), (λ z. absurd (refused-not r (sym e ∙ asked-accepted a b s d (z .0)))));
+        refused = λ z. refl;
+        draws = ((λ z. absurd (numbered r z)), (λ z. absurd (not (z .0))));
         places = λ z. absurd (numbered r z);
         means = λ z. absurd (numbered r z);
         legal = λ z. absurd (numbered r z);
-        prevents = λ z. absurd (omega arith);
+        prevents = ((λ z. absurd (omega arith)), (λ z. absurd (not (z .0))));
         witness = λ z. absurd (omega arith);
       }
 
@@ -143,11 +145,12 @@ module _ (a b : List ℤ) (s : ℕ) (d : ℤ) (wire : ℕ) (out : List ℤ) wher
         record {
           answer = sym (rw (e, le-ltb wire (length a) h));
           buffer = refl;
+          refused = λ z. refl;
           draws = ((λ z. absurd (omega arith)), (λ z. absurd (omega (arith, z .1))));
           places = λ z. absurd (omega arith);
           means = λ z. absurd (omega arith);
           legal = λ z. absurd (omega arith);
-          prevents = λ z. absurd (omega arith);
+          prevents = ((λ z. absurd (omega arith)), (λ z. absurd (omega (arith, z .1))));
           witness = λ z. absurd (omega arith);
         }
 
@@ -158,11 +161,12 @@ module _ (a b : List ℤ) (s : ℕ) (d : ℤ) (wire : ℕ) (out : List ℤ) wher
           record {
             answer = sym (rw (e, lt-ltb wire (length a) lt, lt-ltb (length out) (s + 1) g));
             buffer = refl;
+            refused = λ z. refl;
             draws = ((λ z. absurd (omega arith)), (λ z. absurd (omega (arith, z .2))));
             places = λ z. absurd (omega arith);
             means = λ z. absurd (omega arith);
             legal = λ z. absurd (omega arith);
-            prevents = λ z. absurd (omega arith);
+            prevents = ((λ z. absurd (omega arith)), (λ z. absurd (omega (arith, z .2))));
             witness = λ z. absurd (omega arith);
           }
 
@@ -173,11 +177,12 @@ module _ (a b : List ℤ) (s : ℕ) (d : ℤ) (wire : ℕ) (out : List ℤ) wher
             record {
               answer = rw (e, lt-ltb wire (length a) lt, le-ltb (length out) (s + 1) g) (rw e at (f .answer));
               buffer = refl;
+              refused = λ z. refl;
               draws = ((λ z. absurd (numbered r z)), (λ z. absurd (numbered r (f .fits .1 (z .0, z .3)))));
               places = λ z. absurd (numbered r z);
               means = λ z. absurd (numbered r z);
               legal = λ z. absurd (numbered r z);
-              prevents = f .prevents;
+              prevents = ((λ z. let p = f .prevents .0 z in (p .0, lt, room, p .1)), (λ z. f .prevents .1 (z .0, z .3)));
               witness = f .witness;
             }
 
@@ -189,11 +194,12 @@ module _ (a b : List ℤ) (s : ℕ) (d : ℤ) (wire : ℕ) (out : List ℤ) wher
             record {
               answer = rw (e, lt-ltb wire (length a) lt, le-ltb (length out) (s + 1) g) (rw e at (f .answer));
               buffer = h;
+              refused = λ z. absurd (z refl);
               draws = ((λ z. (k .0, lt, room, k .1)), (λ z. refl));
               places = λ z. at;
               means = λ z. wire-same (pad out′) (drawnOf a b d wire) s at;
               legal = λ z. drawn-legal (k .0 .rows) s d (k .1);
-              prevents = λ z. absurd (omega arith);
+              prevents = ((λ z. absurd (omega arith)), (λ z. absurd (z .3 (k .1))));
               witness = λ z. absurd (omega arith);
             }
 
@@ -202,13 +208,15 @@ module _ (a b : List ℤ) (s : ℕ) (d : ℤ) (out : List ℤ) where
   pub all-early : (r : Refusal) → checkAsked a b s d ≡ Refused r → DrawAllAnswer a b s d out out (Refused r)
   all-early r e =
       let l = rw e at (early-asked a b s d) in
+      let not : Asked a b s d → ⊥ = λ k. refused-not r (sym e ∙ asked-accepted a b s d k) in
       record {
         answer = sym (rw e);
         buffer = refl;
-        draws = ((λ z. absurd (numbered r z)), (λ z. absurd (refused-not r (sym e ∙ asked-accepted a b s d (z .0)))));
+        refused = λ z. refl;
+        draws = ((λ z. absurd (numbered r z)), (λ z. absurd (not (z .0))));
         places = λ z. absurd (numbered r z);
         legal = λ z. absurd (numbered r z);
-        prevents = λ z. absurd (omega arith);
+        prevents = ((λ z. absurd (omega arith)), (λ z. absurd (not (z .0))));
         witness = λ z. absurd (omega arith);
       }
 
@@ -218,10 +226,11 @@ module _ (a b : List ℤ) (s : ℕ) (d : ℤ) (out : List ℤ) where
         record {
           answer = sym (rw (e, lt-ltb (length out) (length a * (s + 1)) h));
           buffer = refl;
+          refused = λ z. refl;
           draws = ((λ z. absurd (omega arith)), (λ z. absurd (omega (arith, z .1))));
           places = λ z. absurd (omega arith);
           legal = λ z. absurd (omega arith);
-          prevents = λ z. absurd (omega arith);
+          prevents = ((λ z. absurd (omega arith)), (λ z. absurd (omega (arith, z .1))));
           witness = λ z. absurd (omega arith);
         }
 
@@ -231,10 +240,11 @@ module _ (a b : List ℤ) (s : ℕ) (d : ℤ) (out : List ℤ) where
           record {
             answer = rw (e, le-ltb (length out) (length a * (s + 1)) room) (rw e at (f .answer));
             buffer = refl;
+            refused = λ z. refl;
             draws = ((λ z. absurd (numbered r z)), (λ z. absurd (numbered r (f .fits .1 (z .0, z .2)))));
             places = λ z. absurd (numbered r z);
             legal = λ z. absurd (numbered r z);
-            prevents = f .prevents;
+            prevents = ((λ z. let p = f .prevents .0 z in (p .0, room, p .1)), (λ z. f .prevents .1 (z .0, z .2)));
             witness = f .witness;
           }
 
@@ -245,10 +255,11 @@ module _ (a b : List ℤ) (s : ℕ) (d : ℤ) (out : List ℤ) where
           record {
             answer = rw (e, le-ltb (length out) (length a * (s + 1)) room) (rw e at (f .answer));
             buffer = h;
+            refused = λ z. absurd (z refl);
             draws = ((λ z. (k .0, room, k .1)), (λ z. refl));
             places = λ z. at;
             legal = λ z. legal-same (length a) s (pad a) (topPad b d) (drawnOf a b d) (columnIn out′ s) (λ i t g l. sym (at i t g l)) (drawn-legal (k .0 .rows) s d (k .1));
-            prevents = λ z. absurd (omega arith);
+            prevents = ((λ z. absurd (omega arith)), (λ z. absurd (z .2 (k .1))));
             witness = λ z. absurd (omega arith);
           }
 
