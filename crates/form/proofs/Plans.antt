@@ -1,7 +1,8 @@
 -- What each of the four calls promises, said of the numbers that answer its wish.
 use mathlib.Core.Path.{_≡_, refl, sym, ap, _∙_}
-use mathlib.Core.Bool.{Bool, true, false}
+use mathlib.Core.Bool.{Bool, true, false, cond}
 use mathlib.Core.List.{List}
+use mathlib.Core.Logic.{_↔_}
 use Prim.Native.Nat.{ℕ, zero, suc, _+_, _-_, _≤_, _<_}
 use native.Mathlib.Decide.{decLt}
 use native.Mathlib.Omega.{arith}
@@ -14,18 +15,20 @@ use Rattle.wiring.specs.Wiring.{HasWiring}
 use Rattle.wiring.specs.Fit.{leanOf, half}
 use Rattle.jumper.specs.Limits.{maxLadder, AcceptedOffset}
 use Rattle.jumper.specs.Refusals.{sideNumber, refusalNumbers}
-use Rattle.jumper.specs.Rows.{AcceptedRows, unlessRefused, checkRows}
-use Rattle.jumper.specs.Asked.{checkOffset, AcceptedTracks}
-use Rattle.jumper.specs.Span.{rangeOf}
+use Rattle.jumper.specs.Rows.{AcceptedRows, checkedNumbers, unlessRefused, orElse, checkRows}
+use Rattle.jumper.specs.Asked.{checkTracks, checkOffset, checkAsked, AcceptedTracks}
+use Rattle.jumper.specs.Range.{wholeRange, isEmpty}
+use Rattle.jumper.specs.Span.{lowestAt, highestAt, rangeOf}
 use Rattle.jumper.specs.declared.refusal.Refusal.{Refusal}
+use Rattle.jumper.specs.declared.refusal.Refusal.the-variants.{NoOffset}
 use Rattle.jumper.specs.declared.refusal.Numbers.{Numbers}
 use Rattle.jumper.specs.declared.range.OffsetRange.{OffsetRange}
 use Rattle.jumper.specs.declared.rows.Checked.{Checked}
 use Rattle.jumper.specs.declared.rows.Checked.the-variants.{Accepted, Refused}
 use Rattle.jumper.proofs.Accepted.{numbered}
 use Rattle.jumper.proofs.Wired.{wired-accepted}
-use Rattle.jumper.proofs.Checks.{Early, tracks-accepted, early-shift, early-rows}
-use Rattle.fit.specs.Misfit.{misfitOf, FitAnswer}
+use Rattle.jumper.proofs.Checks.{Early, tracks-accepted, early-rows, early-tracks, early-shift, early-asked}
+use Rattle.fit.specs.Misfit.{misfitOf, noFit, fitOf, FitAnswer}
 use Rattle.fit.specs.Least.{leastNumbers, leastOf, withWitness, leastAnswer, LeastAnswer}
 use Rattle.fit.specs.Offsets.{offsetsNumbers, offsetsAnswer, rangeFound, OffsetsAnswer}
 use Rattle.fit.specs.declared.misfit.Misfit.{Misfit}
@@ -41,31 +44,55 @@ use Rattle.best.specs.declared.plan.Best.{Best}
 use Rattle.best.specs.declared.plan.Best.the-variants.{Found, Refused as NoBest}
 use Rattle.best.proofs.Levels.{one-level, more-levels}
 use Rattle.best.proofs.Bests.{ladder-length}
-use Rattle.form.specs.Plan.{plannedWith, fitPlan, leastPlan, rangePlan, planOf, Asks, Meetable, Prevents, PlanAnswer}
+use Rattle.form.specs.Plan.{plannedWith, fitPlan, leastPlan, rangePlan, planOf, Asks, Meetable, Unfit, Offsetless, Names, PlanAnswer}
 use Rattle.form.proofs.Known.{Known, known-fit, known-least, known-range, known-best}
 use Rattle.form.specs.declared.wish.Wish.{Wish}
 use Rattle.form.specs.declared.wish.Wish.the-variants.{Fit, Least as Leastwise, Range, Best as Bestwise}
 
--- a least separation there always is: its refusals are those of the checks
-least-never : (a b : List ℤ) (d : ℤ) (r : Refusal) → NoLeast r ≡ leastAnswer a b d → refusalNumbers r .refusal ≡ 10 → ⊥
-least-never a b d r e z =
+-- WITH WHICH NUMBERS A WISH IS REFUSED. A least separation there always is: its refusals are those of the checks
+least-early : (a b : List ℤ) (d : ℤ) (r : Refusal) → NoLeast r ≡ leastAnswer a b d → refusalNumbers r .refusal ≤ 7
+least-early a b d r e =
     let s = leastOf (leanOf a) (leanOf b) d (length a) in
     go (checkOffset a b d) (early-shift a b d) s (misfitOf a b (s - 1) d) (ap (λ (l : Least). leastNumbers l .refusal) e)
   where
-    go : (c : Checked) → Early 7 c → (s : ℕ) (m : Misfit) → refusalNumbers r .refusal ≡ leastNumbers (unlessRefused c NoLeast (withWitness s m)) .refusal → ⊥
+    go : (c : Checked) → Early 7 c → (s : ℕ) (m : Misfit) → refusalNumbers r .refusal ≡ leastNumbers (unlessRefused c NoLeast (withWitness s m)) .refusal → refusalNumbers r .refusal ≤ 7
     go (Refused q) l s m e = omega arith
     go Accepted l zero m e = omega arith
     go Accepted l (suc s) None e = omega arith
     go Accepted l (suc s) (At i k) e = omega arith
 
--- and so there is a best one
-best-never : (a b : List ℤ) (before : List ℕ) (r : Refusal) → NoBest r ≡ bestAnswer a b before → refusalNumbers r .refusal ≡ 11 → ⊥
-best-never a b before r e z = go (checkRows a b) (early-rows a b) (ltb (length before) (length (ladderOf a b))) (ap (λ (q : Best). bestNumbers q .refusal) e)
+-- and so there is a best one: its refusals are those of the rows, and BUFFER
+best-early : (a b : List ℤ) (before : List ℕ) (r : Refusal) → NoBest r ≡ bestAnswer a b before → refusalNumbers r .refusal ≤ 9
+best-early a b before r e = go (checkRows a b) (early-rows a b) (ltb (length before) (length (ladderOf a b))) (ap (λ (q : Best). bestNumbers q .refusal) e)
   where
-    go : (c : Checked) → Early 5 c → (t : Bool) → refusalNumbers r .refusal ≡ bestNumbers (unlessRefused c NoBest (roomOr t (plannedOf a b))) .refusal → ⊥
+    go : (c : Checked) → Early 5 c → (t : Bool) → refusalNumbers r .refusal ≡ bestNumbers (unlessRefused c NoBest (roomOr t (plannedOf a b))) .refusal → refusalNumbers r .refusal ≤ 9
     go (Refused q) l t e = omega arith
     go Accepted l true e = omega arith
     go Accepted l false e = omega arith
+
+-- a separation and an offset are refused with at most 10, a separation alone with 11 or at most 6
+fit-early : (a b : List ℤ) (s : ℕ) (d : ℤ) (r : Refusal) → Refused r ≡ fitOf a b s d → refusalNumbers r .refusal ≤ 10
+fit-early a b s d r e = go (checkAsked a b s d) (early-asked a b s d) (misfitOf a b s d) (ap (λ (c : Checked). checkedNumbers c .refusal) e)
+  where
+    go : (c : Checked) → Early 7 c → (m : Misfit) → refusalNumbers r .refusal ≡ checkedNumbers (orElse c (noFit m)) .refusal → refusalNumbers r .refusal ≤ 10
+    go (Refused q) l m e = omega arith
+    go Accepted l None e = omega arith
+    go Accepted l (At i k) e = omega arith
+
+range-early : (a b : List ℤ) (s : ℕ) (r : Refusal) → NoRange r ≡ offsetsAnswer a b s → refusalNumbers r .refusal ≡ 10 → ⊥
+range-early a b s r e z = go (checkTracks a b s) (early-tracks a b s) (ltb s (length a)) (isEmpty o) (ap (λ (q : Offsets). offsetsNumbers q .refusal) e)
+  where
+    o : OffsetRange
+    o = rangeOf (length a) (leanOf a) (leanOf b) s
+
+    places : Refusal
+    places = NoOffset (lowestAt (length a) (leanOf a) (leanOf b) s) (highestAt (length a) (leanOf a) (leanOf b) s)
+
+    go : (c : Checked) → Early 6 c → (t u : Bool) → refusalNumbers r .refusal ≡ offsetsNumbers (unlessRefused c NoRange (cond t (cond u (NoRange places) (Offered o)) (Offered wholeRange))) .refusal → ⊥
+    go (Refused q) l t u e = omega arith
+    go Accepted l true true e = omega arith
+    go Accepted l true false e = omega arith
+    go Accepted l false u e = omega arith
 
 -- refused although the separation is accepted: no offset fits
 range-never : (a b : List ℤ) (s : ℕ) (r : Refusal) → NoRange r ≡ offsetsAnswer a b s → AcceptedTracks a b s → refusalNumbers r .refusal ≡ 11
@@ -104,14 +131,17 @@ foundLeast s i k = record { refusal = 0; place = 0; second = 0; separation = s; 
 
 module _ (a b : List ℤ) where
   -- a refusal: what is asked isn't accepted, or no wiring meets it
-  refused-plan : (w : Wish) (r : Refusal) → refusalNumbers r ≡ planOf w a b → (Asks w a b → Meetable w a b → refusalNumbers r .refusal ≡ 0) → Prevents w a b (refusalNumbers r)
+  refused-plan : (w : Wish) (r : Refusal) → refusalNumbers r ≡ planOf w a b → (Asks w a b → Meetable w a b → refusalNumbers r .refusal ≡ 0)
+      → (refusalNumbers r .refusal ≡ 10) ↔ Unfit w a b → (refusalNumbers r .refusal ≡ 11) ↔ Offsetless w a b → Names w a b (refusalNumbers r)
       → Known a b (refusalNumbers r .refusal) → PlanAnswer w a b (refusalNumbers r)
-  refused-plan w r e none p k =
+  refused-plan w r e never p o n k =
       record {
         answer = e;
-        accepts = ((λ z. absurd (numbered r z)), (λ m. none (m .0) (m .1)));
+        accepts = ((λ z. absurd (numbered r z)), (λ m. never (m .0) (m .1)));
         means = λ z. absurd (numbered r z);
         prevents = p;
+        none = o;
+        names = n;
         rows = λ z. absurd (numbered r z);
         drawable = λ z. absurd (numbered r z);
         known = k .few;
@@ -125,14 +155,17 @@ module _ (a b : List ℤ) where
         answer = ap (fitPlan s d) (h .answer);
         accepts = ((λ z. w), (λ z. refl));
         means = λ z. record { named = (refl, refl, refl); fits = w .1 };
-        prevents = λ z. absurd (omega arith);
+        prevents = ((λ z. absurd (omega arith)), (λ z. absurd (z .1 (w .1))));
+        none = ((λ z. omega arith), (λ z. absurd z));
+        names = λ z. absurd (omega arith);
         rows = λ z. w .0 .rows;
         drawable = λ z. w;
         known = omega arith;
         equal = λ e z. omega arith;
       }
   fit-plan s d (Refused r) h =
-      refused-plan (Fit s d) r (ap (fitPlan s d) (h .answer)) (λ k w. h .fits .1 (k, w)) (λ z. (h .prevents z, h .witness z))
+      refused-plan (Fit s d) r (ap (fitPlan s d) (h .answer)) (λ k w. h .fits .1 (k, w)) (h .prevents)
+      ((λ z. omega (arith, fit-early a b s d r (h .answer))), (λ z. absurd z)) (h .witness)
       (rw (← h .answer) at (known-fit a b s d))
 
   -- a least separation s that was found, with its witness
@@ -145,7 +178,9 @@ module _ (a b : List ℤ) where
         answer = sym f ∙ ap (leastPlan d) (h .answer);
         accepts = ((λ z. (g, tt)), (λ w. refl));
         means = λ z. record { named = (refl, refl); within = within; fits = fits; least = (rw e at (h .least)) refl; witness = (rw e at (h .witness)) refl };
-        prevents = λ z. omega arith;
+        prevents = ((λ z. omega arith), (λ z. absurd z));
+        none = ((λ z. omega arith), (λ z. absurd z));
+        names = tt;
         rows = λ z. g .rows;
         drawable = λ z. (record { rows = g .rows; tracks = omega (arith, within, g .rows .few); offset = g .offset }, fits);
         known = omega arith;
@@ -154,21 +189,25 @@ module _ (a b : List ℤ) where
 
   pub least-plan : (d : ℤ) (l : Least) → LeastAnswer a b d l → PlanAnswer (Leastwise d) a b (leastPlan d l)
   least-plan d (NoLeast r) h =
-      refused-plan (Leastwise d) r (ap (leastPlan d) (h .answer)) (λ k w. h .accepts .1 k) (least-never a b d r (h .answer))
+      refused-plan (Leastwise d) r (ap (leastPlan d) (h .answer)) (λ k w. h .accepts .1 k)
+      ((λ z. omega (arith, least-early a b d r (h .answer))), (λ z. absurd z)) ((λ z. omega (arith, least-early a b d r (h .answer))), (λ z. absurd z)) tt
       (rw (← h .answer) at (known-least a b d))
   least-plan d Straight h = least-found d Straight 0 0 0 refl refl h
   least-plan d (Tracks s i side) h = least-found d (Tracks s i side) s i (sideNumber side) refl refl h
 
   pub range-plan : (s : ℕ) (q : Offsets) → OffsetsAnswer a b s q → PlanAnswer (Range s) a b (rangePlan s q)
   range-plan s (NoRange r) h =
-      refused-plan (Range s) r (ap (rangePlan s) (h .answer)) (λ k w. absurd (h .none .0 (range-never a b s r (h .answer) k) .1 (w .0) (w .1))) (λ z. h .none .0 z .1)
+      refused-plan (Range s) r (ap (rangePlan s) (h .answer)) (λ k w. absurd (h .none .0 (range-never a b s r (h .answer) k) .1 (w .0) (w .1)))
+      ((λ z. range-early a b s r (h .answer) z), (λ z. absurd z)) (h .none) (h .places)
       (rw (← h .answer) at (known-range a b s))
   range-plan s (Offered r) h =
       record {
         answer = ap (rangePlan s) (h .answer);
         accepts = ((λ z. (k, (r .low, fits))), (λ w. refl));
         means = λ z. record { named = refl; some = h .some refl; exactly = h .exactly refl; every = h .every refl };
-        prevents = λ z. absurd (omega arith);
+        prevents = ((λ z. omega arith), (λ z. absurd z));
+        none = ((λ z. absurd (omega arith)), (λ z. absurd (z .1 (r .low) fits)));
+        names = λ z. absurd (omega arith);
         rows = λ z. k .rows;
         drawable = λ z. (record { rows = k .rows; tracks = k .tracks; offset = accepted (decLt s (length a)) }, fits);
         known = omega arith;
@@ -192,7 +231,7 @@ module _ (a b : List ℤ) where
   pub best-plan : (before after : List ℕ) (q : Best) → before ≡ replicate maxLadder 0 → BestAnswer a b before after q → PlanAnswer Bestwise a b (bestNumbers q)
   best-plan before after (NoBest r) e h =
       refused-plan Bestwise r (ap bestNumbers (h .answer) ∙ ap (λ (l : List ℕ). bestNumbers (bestAnswer a b l)) e) (λ k w. h .accepts .1 (k, rw e (ladder-room a b k)))
-      (best-never a b before r (h .answer)) (rw (← h .answer) at (known-best a b before))
+      ((λ z. omega (arith, best-early a b before r (h .answer))), (λ z. absurd z)) ((λ z. omega (arith, best-early a b before r (h .answer))), (λ z. absurd z)) tt (rw (← h .answer) at (known-best a b before))
   best-plan before after (Found p) e h =
       let k = h .accepts .0 refl .0 in
       let w = h .exactly refl (p .range .low) .1 (record { low = omega arithℤ; high = h .some refl }) in
@@ -200,7 +239,9 @@ module _ (a b : List ℤ) where
         answer = ap bestNumbers (h .answer) ∙ ap (λ (l : List ℕ). bestNumbers (bestAnswer a b l)) e;
         accepts = ((λ z. (k, tt)), (λ w. refl));
         means = λ z. record { some = h .some refl; exactly = h .exactly refl; none = h .none refl; within = h .within refl; fixed = h .fixed refl; cheap = h .cheap refl };
-        prevents = λ z. omega arith;
+        prevents = ((λ z. omega arith), (λ z. absurd z));
+        none = ((λ z. omega arith), (λ z. absurd z));
+        names = tt;
         rows = λ z. k;
         drawable = λ z. (record { rows = k; tracks = omega (arith, h .below refl, k .few); offset = wired-accepted k (p .separation) (p .range .low) (h .below refl) w }, w);
         known = omega arith;

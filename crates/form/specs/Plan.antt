@@ -17,7 +17,7 @@ use Rattle.jumper.specs.declared.rows.Checked.{Checked}
 use Rattle.jumper.specs.declared.rows.Checked.the-variants.{Accepted, Refused}
 use Rattle.fit.specs.Misfit.{fitOf, Witness}
 use Rattle.fit.specs.Least.{leastAnswer}
-use Rattle.fit.specs.Offsets.{offsetsAnswer}
+use Rattle.fit.specs.Offsets.{offsetsAnswer, FirstLow, FirstHigh}
 use Rattle.fit.specs.declared.least.Least.{Least}
 use Rattle.fit.specs.declared.least.Least.the-variants.{Straight, Tracks, Refused as NoLeast}
 use Rattle.fit.specs.declared.offsets.Offsets.{Offsets}
@@ -102,12 +102,26 @@ Means (Leastwise d) a b r = LeastMeans d a b r
 Means (Range s) a b r = RangeMeans s a b r
 Means Best a b r = BestMeans a b r
 
--- and what NOFIT and NOOFFSET mean: no legal wiring, of any shape. They are for a wish that names a separation
-abbrev pub Prevents : Wish → (a b : List ℤ) → Numbers → Type 0
-Prevents (Fit s d) a b r = r .refusal ≡ 10 → (HasWiring a b s d → ⊥) × Witness a b s d (r .pair) (r .side)
-Prevents (Leastwise d) a b r = r .refusal ≡ 10 → ⊥
-Prevents (Range s) a b r = r .refusal ≡ 11 → (d : ℤ) → HasWiring a b s d → ⊥
-Prevents Best a b r = r .refusal ≡ 11 → ⊥
+-- WHEN NOFIT AND NOOFFSET ARE GIVEN: what is asked is accepted, and no legal wiring, of any shape, meets it. NOFIT is for a wish that names a separation
+-- and an offset, NOOFFSET for one that names a separation alone
+abbrev pub Unfit : Wish → (a b : List ℤ) → Type 0
+Unfit (Fit s d) a b = Asked a b s d × (HasWiring a b s d → ⊥)
+Unfit (Leastwise d) a b = ⊥
+Unfit (Range s) a b = ⊥
+Unfit Best a b = ⊥
+
+abbrev pub Offsetless : Wish → (a b : List ℤ) → Type 0
+Offsetless (Fit s d) a b = ⊥
+Offsetless (Leastwise d) a b = ⊥
+Offsetless (Range s) a b = AcceptedTracks a b s × ((d : ℤ) → HasWiring a b s d → ⊥)
+Offsetless Best a b = ⊥
+
+-- and what they name: the witness; the first pair that sets each end of the range
+abbrev pub Names : Wish → (a b : List ℤ) → Numbers → Type 0
+Names (Fit s d) a b r = r .refusal ≡ 10 → Witness a b s d (r .pair) (r .side)
+Names (Leastwise d) a b r = Unit {0}
+Names (Range s) a b r = r .refusal ≡ 11 → FirstLow a b s (r .place) × FirstHigh a b s (r .second)
+Names Best a b r = Unit {0}
 
 -- What `plan` promises, for any wish and rows.
 pub record PlanAnswer (w : Wish) (a b : List ℤ) (r : Numbers) : Type 0 where
@@ -115,8 +129,11 @@ pub record PlanAnswer (w : Wish) (a b : List ℤ) (r : Numbers) : Type 0 where
   -- no refusal exactly when what is asked is accepted and a legal wiring meets it
   pub accepts : (r .refusal ≡ 0) ↔ (Asks w a b × Meetable w a b)
   pub means : r .refusal ≡ 0 → Means w a b r
-  pub prevents : Prevents w a b r
-  -- and then the rows are accepted, and a wiring can be drawn at the separation and the lowest offset
+  -- NOFIT and NOOFFSET exactly when what is asked is accepted and no legal wiring meets it, and what they name
+  pub prevents : (r .refusal ≡ 10) ↔ Unfit w a b
+  pub none : (r .refusal ≡ 11) ↔ Offsetless w a b
+  pub names : Names w a b r
+  -- without refusal the rows are accepted, and a wiring can be drawn at the separation and the lowest offset
   pub rows : r .refusal ≡ 0 → AcceptedRows a b
   pub drawable : r .refusal ≡ 0 → Asked a b (r .separation) (r .lowest) × HasWiring a b (r .separation) (r .lowest)
   -- LINE and what comes after it are no refusals of two rows, and UNEQUAL is none of rows that are equally long
