@@ -9,10 +9,9 @@ use native.Mathlib.Omega.{arith}
 use lib.ListN.{length, drop, take, length-drop}
 use lib.Seq.{take-all, drop-drop}
 use Rattle.sheet.specs.Machine.{answers}
-use Rattle.sheet.specs.Owes.{pending, later, owes, isBusy, Fresh, Given, Fed, Finished}
+use Rattle.sheet.specs.Owes.{pending, later, owes, Fresh, Busy, Given, Fed, Finished}
 use Rattle.sheet.specs.Parts.{TakenIn}
 use Rattle.sheet.specs.declared.state.State.{State}
-use Rattle.sheet.proofs.Steps.{not-busy}
 
 pub gave-on : (s r : State) (line : List ℕ) (a b : List ℤ) (out out' : List ℕ) (n to : ℕ) → Given s a b out n r to out' → (rest : List ℕ)
     → take n out ++ owes s line a b rest ≡ take to out' ++ owes r line a b rest
@@ -77,16 +76,11 @@ drained {a = a} {b = b} line (gives {s = s} {r = r} {out = out} {out' = out'} {w
     let d = drained line p in
     (gave-on s r line a b out out' 0 to g [] ∙ ap (λ (z : List ℕ). take to out' ++ z) (d .0) ∙ sym (append-assoc (take to out') w _), d .1 ∙ g .same line [])
 
--- THE LAW: run from a fresh state over the whole sheet until nothing is left to write, finish, and give until nothing is left to write. What was
--- written in all is the answer to the sheet
-pub whole-sheet : {s u v t : State} {line sheet w l w' : List ℕ} {a b x y : List ℤ} → Fresh s → Run s line a b sheet w u l x y [] → isBusy u ≡ false → Finished u l x y v
-    → Drain x y v w' t → isBusy t ≡ false → w ++ w' ≡ answers sheet
-unfolding owes
+-- THE LAW: run from a fresh state over the whole sheet until `busy` says no, finish, and give until it says no again. What was written in all is the
+-- answer to the sheet
+pub whole-sheet : {s u v t : State} {line sheet w l w' : List ℕ} {a b x y : List ℤ} → Fresh s → Run s line a b sheet w u l x y [] → Busy u false → Finished u l x y v
+    → Drain x y v w' t → Busy t false → w ++ w' ≡ answers sheet
 whole-sheet {t = t} {line = line} {sheet = sheet} {w = w} {l = l} {w' = w'} {a = a} {b = b} {x = x} {y = y} f p idle g q idle' =
     let d = drained l q in
-    let none : pending t x y ≡ [] = not-busy t x y idle' in
-    let last : later t l x y [] ≡ [] = d .1 ∙ g .ended idle in
-    sym
-    (sym (f .owed line a b sheet) ∙ run-owes p
-    ∙ ap (λ (z : List ℕ). w ++ z)
-    (g .owed ∙ d .0 ∙ ap (λ (z : List ℕ). w' ++ (z ++ later t l x y [])) none ∙ ap (λ (z : List ℕ). w' ++ z) last ∙ append-nil w'))
+    let none : owes t l x y [] ≡ [] = idle' .idle refl l x y [] ∙ d .1 ∙ g .ended (sym (idle .answer)) in
+    sym (sym (f .owed line a b sheet) ∙ run-owes p ∙ ap (λ (z : List ℕ). w ++ z) (g .owed ∙ d .0 ∙ ap (λ (z : List ℕ). w' ++ z) none ∙ append-nil w'))

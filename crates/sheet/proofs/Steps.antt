@@ -35,7 +35,7 @@ use Rattle.sheet.specs.Route.{wireText, wiresText}
 use Rattle.sheet.specs.Planned.{planned, PlanTold}
 use Rattle.sheet.specs.Machine.{Mode, ready, inside, skipping, Reaction, shown, refusalText, routeText, lineText, opens, fillsBottom, fillsTop, react, noted, atEnd, machine, answers}
 use Rattle.sheet.specs.Steps.{hasLine, withLine, noOrder, noAnswer, quietBy, owingBy, skips, refusing, headed, heading, cutOff, complete, filling, isHeld, readyTo, skippingTo, bottomTo, BottomPut, topTo, TopPut}
-use Rattle.sheet.specs.Owes.{modeBy, modeOf, seenBy, framesFrom, lastFrame, routeLeft, isAsked, leftText, pending, later, owes, isBusy, Fresh, Finished}
+use Rattle.sheet.specs.Owes.{modeBy, modeOf, seenBy, framesFrom, lastFrame, routeLeft, isAsked, leftText, pending, later, owes, isBusy, Fresh, Busy, Finished}
 use Rattle.sheet.specs.Parts.{Reacted, TakenIn, LineFound, textIn}
 use Rattle.sheet.specs.declared.state.Phase.{Phase}
 use Rattle.sheet.specs.declared.state.Phase.the-variants.{Ready, Inside, Skipping}
@@ -484,6 +484,10 @@ not-busy s a b e =
     let n : length (take (s .wires) a) ≤ s .wire = simp length-take (omega arith) in
     simp (c, d, w, le-ltb _ _ n, always (isAsked (take (s .wires) a) (take (s .wires) b) (s .answer .separation) (s .answer .lowest))))
     (λ w. simp (c, d, w))))
+
+pub busy-told : (s : State) (r : Bool) → r ≡ isBusy s → Busy s r
+unfolding owes
+busy-told s r e = record { answer = e; idle = λ f line a b rest. rw (not-busy s a b (sym e ∙ f)) }
 
 -- the state after the end, and what is owed there
 module _ (s : State) (line : List ℕ) (a b : List ℤ) (idle : isBusy s ≡ false) where

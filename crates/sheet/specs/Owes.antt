@@ -89,6 +89,11 @@ isBusy s = cond (s .cut) true (cond (s .due) true (cond (leb (s .wires) maxPairs
 pub record Fresh (s : State) : Type 0 where
   pub owed : (line : List ℕ) (a b : List ℤ) (sheet : List ℕ) → owes s line a b sheet ≡ answers sheet
 
+-- What `busy` promises: whether anything may be left to write. If not, nothing is owed but what the rest of the sheet brings.
+pub record Busy (s : State) (r : Bool) : Type 0 where
+  pub answer : r ≡ isBusy s
+  pub idle : r ≡ false → (line : List ℕ) (a b : List ℤ) (rest : List ℕ) → owes s line a b rest ≡ later s line a b rest
+
 -- What `feed` promises: a piece of the sheet is taken in as far as `used`, and what it calls for stands in the buffer from place `from` to place
 -- `to`, which is within the buffer if `from` was. It stops before the piece ends only where fewer than 35 places are left, the length of a frame 20.
 pub record Fed (s : State) (line : List ℕ) (a b : List ℤ) (piece out : List ℕ) (from : ℕ) (r : State) (used to : ℕ) (line' : List ℕ) (a' b' : List ℤ) (out' : List ℕ) : Type 0 where

@@ -2,7 +2,7 @@
 ghost use mathlib.Core.Path.{_≡_};
 ghost use Rattle.sheet.specs.Machine.{shown};
 ghost use Rattle.sheet.specs.Steps.{noOrder, noAnswer, quietBy, owingBy, skips, refusing, heading, cutOff, complete, isHeld};
-ghost use Rattle.sheet.specs.Owes.{Fresh, isBusy};
+ghost use Rattle.sheet.specs.Owes.{Fresh, Busy};
 use crate::seen::has_line;
 use crate::seen::with_line;
 use frame::read::Order;
@@ -199,9 +199,9 @@ pub(crate) fn held(s: State) -> bool
     false
 }
 
-// Whether anything may be left to write.
+// Whether anything may be left to write. If not, nothing is owed but what the rest of the sheet brings.
 pub fn busy(s: State) -> bool
-    ensures { λ r. ⌜ r ≡ isBusy s ⌝ }
+    ensures { λ r. ⌜ Busy s r ⌝ }
 {
     if s.cut {
         return true;

@@ -2,15 +2,15 @@
 -- That the two are equal in every case is the theorem `worked` of proofs/Worked.antt.
 use mathlib.Core.List.{List, [], _∷_, map}
 use Prim.Native.Nat.{ℕ}
-use lib.ListN.{replicate, getD}
+use lib.ListN.{length, replicate, getD}
 use lib.IntN.{ℤ, pos, negsuc}
 use Rattle.jumper.specs.Rows.{checkedNumbers}
 use Rattle.jumper.specs.declared.refusal.Numbers.{Numbers}
 use Rattle.fit.specs.Misfit.{fitOf}
 use Rattle.fit.specs.Least.{leastNumbers, leastAnswer}
 use Rattle.fit.specs.Offsets.{offsetsNumbers, offsetsAnswer}
-use Rattle.best.specs.Best.{bestNumbers, ladderOf, bestAnswer}
-use Rattle.route.specs.Draw.{allDrawn}
+use Rattle.best.specs.Best.{bestNumbers, ladderOf, bestAnswer, ladderBy}
+use Rattle.route.specs.Draw.{allDrawn, bufferAfter, allRefusal}
 
 pub record Jumper : Type 0 where
   pub bottom : List ℤ
@@ -61,11 +61,16 @@ rangeAt j s = resultOf (offsetsNumbers (offsetsAnswer (j .bottom) (j .top) s))
 abbrev pub best : Jumper → List ℤ
 best j = resultOf (bestNumbers (bestAnswer (j .bottom) (j .top) (replicate 24 0)))
 
-abbrev pub ladder : Jumper → List ℤ
-ladder j = whole (ladderOf (j .bottom) (j .top))
+-- what a lent buffer holds after the best call and after the drawing of all wires: the call's own refusal decides, as in its promise (`buffer`). Each place
+-- of it held 9 before, so that a case also shows the places beyond untouched
+abbrev pub lent : ℕ → List ℕ
+lent places = replicate places 9
 
-abbrev pub drawnAt : Jumper → ℕ → ℤ → List ℤ
-drawnAt j s d = allDrawn (j .bottom) (j .top) s d []
+abbrev pub ladder : Jumper → (before : List ℕ) → List ℤ
+ladder j before = whole (ladderBy (bestAnswer (j .bottom) (j .top) before) (ladderOf (j .bottom) (j .top)) before)
+
+abbrev pub drawnAt : Jumper → ℕ → ℤ → (out : List ℤ) → List ℤ
+drawnAt j s d out = bufferAfter (allRefusal (j .bottom) (j .top) s d (length out)) (allDrawn (j .bottom) (j .top) s d out) out
 
 -- and their answers. A least separation above 0 carries the witness at one track fewer: pair and side (1 RIGHT, 2 LEFT)
 abbrev pub least : (separation pair side : ℕ) → List ℤ
@@ -101,10 +106,10 @@ table =
     ∷ case (best S) (found 0 (negsuc 0) (negsuc 0) 12)
     -- "J best: 2, offsets -1..1, count 14, ladder 4:2, 2:1, 1:0." "J at 1: NOOFFSET, 2 for the low end, 0 for the high."
     ∷ case (best J) (found 2 (negsuc 0) (pos 1) 14)
-    ∷ case (ladder J) (whole (4 ∷ 2 ∷ 2 ∷ 1 ∷ 1 ∷ 0 ∷ []))
+    ∷ case (ladder J (lent 8)) (whole (4 ∷ 2 ∷ 2 ∷ 1 ∷ 1 ∷ 0 ∷ 9 ∷ 9 ∷ []))
     ∷ case (rangeAt J 1) (noOffset 2 0)
     -- "J drawn at (2, 0): 0,0,1 / 1,2,2 / 4,3,3 / 5,5,4."
-    ∷ case (drawnAt J 2 (pos 0)) (whole (0 ∷ 0 ∷ 1 ∷ 1 ∷ 2 ∷ 2 ∷ 4 ∷ 3 ∷ 3 ∷ 5 ∷ 5 ∷ 4 ∷ []))
+    ∷ case (drawnAt J 2 (pos 0) (whole (lent 14))) (whole (0 ∷ 0 ∷ 1 ∷ 1 ∷ 2 ∷ 2 ∷ 4 ∷ 3 ∷ 3 ∷ 5 ∷ 5 ∷ 4 ∷ 9 ∷ 9 ∷ []))
     ∷ []
 
 -- the case at a place of the table

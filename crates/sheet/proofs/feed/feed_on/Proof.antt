@@ -37,7 +37,7 @@ same-length-4 : tie.Need-same-length-4 Inv-loop μ-loop
 same-length-4 c = c .before .before .before .before .before .give-all .kept .1 .1 .1 .0 ∙ c .before .before .before .before .before .before .before .before .before .before .loop .inv .4
 
 returns : tie.Need-returns Inv-loop μ-loop
-returns c = record { owed = (λ rest. c .before .before .before .before .before .before .before .before .before .before .loop .inv .5 rest ∙ gave-on _ _ _ _ _ _ _ _ _ (c .before .before .before .before .before .give-all .ensures) (drop (c .before .before .before .before .before .before .before .before .before .before .loop .used) (c .before .before .before .before .before .before .before .before .before .before .before .before .before .before .args .piece .now) ++ rest)); within = c .before .before .before .before .before .before .before .before .before .before .loop .inv .0; fits = (λ h. let y = c .before .before .before .before .before .before .before .before .before .before .loop .inv .6 h in let z = c .before .before .before .before .before .give-all .ensures .fits (omega (arith, y, c .before .before .before .before .before .before .before .before .before .before .loop .inv .4)) in omega (arith, z, c .before .before .before .before .before .before .before .before .before .before .loop .inv .4)); far = λ h. let z = c .before .before .before .before .before .give-all .ensures .far (sym (c .before .busy .ensures) ∙ c .if1 .taken) in omega (arith, z, c .before .before .before .before .before .before .before .before .before .before .loop .inv .4) }
+returns c = record { owed = (λ rest. c .before .before .before .before .before .before .before .before .before .before .loop .inv .5 rest ∙ gave-on _ _ _ _ _ _ _ _ _ (c .before .before .before .before .before .give-all .ensures) (drop (c .before .before .before .before .before .before .before .before .before .before .loop .used) (c .before .before .before .before .before .before .before .before .before .before .before .before .before .before .args .piece .now) ++ rest)); within = c .before .before .before .before .before .before .before .before .before .before .loop .inv .0; fits = (λ h. let y = c .before .before .before .before .before .before .before .before .before .before .loop .inv .6 h in let z = c .before .before .before .before .before .give-all .ensures .fits (omega (arith, y, c .before .before .before .before .before .before .before .before .before .before .loop .inv .4)) in omega (arith, z, c .before .before .before .before .before .before .before .before .before .before .loop .inv .4)); far = λ h. let z = c .before .before .before .before .before .give-all .ensures .far (sym (c .before .busy .ensures .answer) ∙ c .if1 .taken) in omega (arith, z, c .before .before .before .before .before .before .before .before .before .before .loop .inv .4) }
 
 sub-take-in : tie.Need-sub-take-in Inv-loop μ-loop
 sub-take-in c = search needs
@@ -55,7 +55,7 @@ add-used : tie.Need-add-used Inv-loop μ-loop
 add-used c = let w = used-within (c .before .before .before .before .before .before .before .before .before .before .before .before .before .before .before .before .before .before .before .before .before .before .before .before .before .args .piece .now) _ _ (part _ _ (c .before .before .before .before .before .before .before .before .before .before .before .before .before .before .before .before .before .before .before .before .before .loop .inv .0)) _ (c .before .before .before .before .before .before .before .before .before .before .before .before .before .before .before .before .before .before .before .before .before .loop .inv .0) (c .before .before .before .before .before .before .take-in .ensures .within) in omega (arith, w, c .before .before .before .before .before .before .before .before .before .before .before .before .before .before .before .before .before .before .before .before .before .before .before .before .before .good)
 
 loop-less : tie.Need-loop-less Inv-loop μ-loop
-loop-less c = let z = c .before .before .before .before .before .before .take-in .ensures .some (sym (c .before .before .before .before .before .before .before .before .before .before .before .before .busy .ensures) ∙ c .before .before .before .before .before .before .before .before .before .before .before .if1 .left) (left-some (c .before .before .before .before .before .before .before .before .before .before .before .before .before .before .before .before .before .before .before .before .before .before .before .before .before .args .piece .now) _ _ (part (c .before .before .before .before .before .before .before .before .before .before .before .before .before .before .before .before .before .before .before .before .before .before .before .before .before .args .piece .now) _ (c .before .before .before .before .before .before .before .before .before .before .before .before .before .before .before .before .before .before .before .before .before .loop .inv .0)) (c .before .before .before .before .before .before .before .before .before .before .before .before .before .before .before .before .before .before .before .before .loop-test .taken)) in omega (arith, z, c .before .before .before .before .before .before .before .before .before .before .before .before .before .before .before .before .before .before .before .before .loop-test .taken)
+loop-less c = let z = c .before .before .before .before .before .before .take-in .ensures .some (sym (c .before .before .before .before .before .before .before .before .before .before .before .before .busy .ensures .answer) ∙ c .before .before .before .before .before .before .before .before .before .before .before .if1 .left) (left-some (c .before .before .before .before .before .before .before .before .before .before .before .before .before .before .before .before .before .before .before .before .before .before .before .before .before .args .piece .now) _ _ (part (c .before .before .before .before .before .before .before .before .before .before .before .before .before .before .before .before .before .before .before .before .before .before .before .before .before .args .piece .now) _ (c .before .before .before .before .before .before .before .before .before .before .before .before .before .before .before .before .before .before .before .before .before .loop .inv .0)) (c .before .before .before .before .before .before .before .before .before .before .before .before .before .before .before .before .before .before .before .before .loop-test .taken)) in omega (arith, z, c .before .before .before .before .before .before .before .before .before .before .before .before .before .before .before .before .before .before .before .before .loop-test .taken)
 
 loop-again : tie.Need-loop-again Inv-loop μ-loop
 loop-again c = (used-within (c .before .before .before .before .before .before .before .before .before .before .before .before .before .before .before .before .before .before .before .before .before .before .before .before .before .args .piece .now) _ _ (part (c .before .before .before .before .before .before .before .before .before .before .before .before .before .before .before .before .before .before .before .before .before .before .before .before .before .args .piece .now) _ (c .before .before .before .before .before .before .before .before .before .before .before .before .before .before .before .before .before .before .before .before .before .loop .inv .0)) _ (c .before .before .before .before .before .before .before .before .before .before .before .before .before .before .before .before .before .before .before .before .before .loop .inv .0) (c .before .before .before .before .before .before .take-in .ensures .within), c .before .before .before .before .before .before .take-in .kept .0 ∙ c .before .before .before .before .before .before .before .before .before .before .before .before .before .before .before .before .before .before .before .before .before .loop .inv .1, c .before .before .before .before .before .before .take-in .kept .1 .0 ∙ c .before .before .before .before .before .before .before .before .before .before .before .before .before .before .before .before .before .before .before .before .before .loop .inv .2, c .before .before .before .before .before .before .take-in .kept .1 .1 .0 ∙ c .before .before .before .before .before .before .before .before .before .before .before .before .before .before .before .before .before .before .before .before .before .loop .inv .3, c .before .before .before .before .before .before .before .before .before .before .before .before .before .before .before .before .give-all .kept .1 .1 .1 .0 ∙ c .before .before .before .before .before .before .before .before .before .before .before .before .before .before .before .before .before .before .before .before .before .loop .inv .4, fed-more (c .before .before .before .before .before .before .before .before .before .before .before .before .before .before .before .before .before .before .before .before .before .before .before .before .before .args .piece .now) _ _ (part (c .before .before .before .before .before .before .before .before .before .before .before .before .before .before .before .before .before .before .before .before .before .before .before .before .before .args .piece .now) _ (c .before .before .before .before .before .before .before .before .before .before .before .before .before .before .before .before .before .before .before .before .before .loop .inv .0)) _ _ _ _ _ _ _ _ _ _ _ _ _ _ _ (c .before .before .before .before .before .before .before .before .before .before .before .before .before .before .before .before .before .before .before .before .before .loop .inv .5) (c .before .before .before .before .before .before .before .before .before .before .before .before .before .before .before .before .give-all .ensures) (c .before .before .before .before .before .before .take-in .ensures), λ h. let y = c .before .before .before .before .before .before .before .before .before .before .before .before .before .before .before .before .before .before .before .before .before .loop .inv .6 h in let z = c .before .before .before .before .before .before .before .before .before .before .before .before .before .before .before .before .give-all .ensures .fits (omega (arith, y, c .before .before .before .before .before .before .before .before .before .before .before .before .before .before .before .before .before .before .before .before .before .loop .inv .4)) in omega (arith, z, c .before .before .before .before .before .before .before .before .before .before .before .before .before .before .before .before .before .before .before .before .before .loop .inv .4))

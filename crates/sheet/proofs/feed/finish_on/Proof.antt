@@ -10,7 +10,7 @@ busy-requires : tie.Need-busy-requires
 busy-requires c κs = search needs
 
 returns : tie.Need-returns
-returns c = λ a b. record { owed = refl; ended = λ h. absurd (true≢false (sym (c .if1 .taken) ∙ c .before .busy .ensures ∙ h)); busy = λ h. refl }
+returns c = λ a b. record { owed = refl; ended = λ h. absurd (true≢false (sym (c .if1 .taken) ∙ c .before .busy .ensures .answer ∙ h)); busy = λ h. refl }
 
 enum-told : tie.Need-enum-told
 enum-told c = search needs
@@ -19,7 +19,7 @@ skip-requires : tie.Need-skip-requires
 skip-requires c κs = search needs
 
 returns-2 : tie.Need-returns-2
-returns-2 c = λ a b. end-skips (c .before .before .before .before .before .before .before .args .s) (c .before .before .before .before .before .before .before .args .line .now) a b (sym (c .before .before .before .before .before .busy .ensures) ∙ c .before .before .before .before .if1 .left) _ _ (mode-ready (c .before .before .before .before .before .before .before .args .s) a b (c .before .before .enum-told .given .1)) (c .skip .ensures) (end-ready _ _ _ (c .before .before .before .before .before .before .before .pre) (c .before .if2 .taken))
+returns-2 c = λ a b. end-skips (c .before .before .before .before .before .before .before .args .s) (c .before .before .before .before .before .before .before .args .line .now) a b (sym (c .before .before .before .before .before .busy .ensures .answer) ∙ c .before .before .before .before .if1 .left) _ _ (mode-ready (c .before .before .before .before .before .before .before .args .s) a b (c .before .before .enum-told .given .1)) (c .skip .ensures) (end-ready _ _ _ (c .before .before .before .before .before .before .before .pre) (c .before .if2 .taken))
 
 refuse-requires : tie.Need-refuse-requires
 refuse-requires c κs = search needs
@@ -40,25 +40,25 @@ refuse-requires-2 : tie.Need-refuse-requires-2
 refuse-requires-2 c κs = search needs
 
 returns-3 : tie.Need-returns-3
-returns-3 c = λ a b. end-refuses (c .before .before .before .before .before .before .before .before .before .args .s) (c .before .before .before .before .before .before .before .before .before .args .line .now) a b (sym (c .before .before .before .before .before .before .before .busy .ensures) ∙ c .before .before .before .before .before .before .if1 .left) _ _ _ _ (mode-inside (c .before .before .before .before .before .before .before .before .before .args .s) a b (c .before .before .before .before .enum-told3 .given .1) (sym (c .before .before .before .held .ensures) ∙ c .before .before .if3 .taken)) (c .refuse2 .ensures) (end-inside _ _ _ (c .before .before .before .before .before .before .before .before .before .pre) _ _ _ (c .before .if4 .taken))
+returns-3 c = λ a b. end-refuses (c .before .before .before .before .before .before .before .before .before .args .s) (c .before .before .before .before .before .before .before .before .before .args .line .now) a b (sym (c .before .before .before .before .before .before .before .busy .ensures .answer) ∙ c .before .before .before .before .before .before .if1 .left) _ _ _ _ (mode-inside (c .before .before .before .before .before .before .before .before .before .args .s) a b (c .before .before .before .before .enum-told3 .given .1) (sym (c .before .before .before .held .ensures) ∙ c .before .before .if3 .taken)) (c .refuse2 .ensures) (end-inside _ _ _ (c .before .before .before .before .before .before .before .before .before .pre) _ _ _ (c .before .if4 .taken))
 
 refuse-requires-3 : tie.Need-refuse-requires-3
 refuse-requires-3 c κs = search needs
 
 returns-4 : tie.Need-returns-4
-returns-4 c = λ a b. end-refuses (c .before .before .before .before .before .before .before .before .before .args .s) (c .before .before .before .before .before .before .before .before .before .args .line .now) a b (sym (c .before .before .before .before .before .before .before .busy .ensures) ∙ c .before .before .before .before .before .before .if1 .left) _ _ _ _ (mode-inside (c .before .before .before .before .before .before .before .before .before .args .s) a b (c .before .before .before .before .enum-told3 .given .1) (sym (c .before .before .before .held .ensures) ∙ c .before .before .if3 .taken)) (c .refuse3 .ensures) (end-inside-cut _ _ _ (c .before .before .before .before .before .before .before .before .before .pre) _ _ _ (c .before .if4 .left))
+returns-4 c = λ a b. end-refuses (c .before .before .before .before .before .before .before .before .before .args .s) (c .before .before .before .before .before .before .before .before .before .args .line .now) a b (sym (c .before .before .before .before .before .before .before .busy .ensures .answer) ∙ c .before .before .before .before .before .before .if1 .left) _ _ _ _ (mode-inside (c .before .before .before .before .before .before .before .before .before .args .s) a b (c .before .before .before .before .enum-told3 .given .1) (sym (c .before .before .before .held .ensures) ∙ c .before .before .if3 .taken)) (c .refuse3 .ensures) (end-inside-cut _ _ _ (c .before .before .before .before .before .before .before .before .before .pre) _ _ _ (c .before .if4 .left))
 
 skip-requires-3 : tie.Need-skip-requires-3
 skip-requires-3 c κs = search needs
 
 returns-5 : tie.Need-returns-5
-returns-5 c = λ a b. end-refuses (c .before .before .before .before .before .before .before .args .s) (c .before .before .before .before .before .before .before .args .line .now) a b (sym (c .before .before .before .before .before .busy .ensures) ∙ c .before .before .before .before .if1 .left) _ _ _ _ (mode-ready (c .before .before .before .before .before .before .before .args .s) a b (c .before .before .enum-told .given .1)) (c .refuse .ensures) (end-ready-cut _ _ _ (c .before .before .before .before .before .before .before .pre) (c .before .if2 .left))
+returns-5 c = λ a b. end-refuses (c .before .before .before .before .before .before .before .args .s) (c .before .before .before .before .before .before .before .args .line .now) a b (sym (c .before .before .before .before .before .busy .ensures .answer) ∙ c .before .before .before .before .if1 .left) _ _ _ _ (mode-ready (c .before .before .before .before .before .before .before .args .s) a b (c .before .before .enum-told .given .1)) (c .refuse .ensures) (end-ready-cut _ _ _ (c .before .before .before .before .before .before .before .pre) (c .before .if2 .left))
 
 returns-6 : tie.Need-returns-6
-returns-6 c = λ a b. end-skips (c .before .before .before .before .before .before .args .s) (c .before .before .before .before .before .before .args .line .now) a b (sym (c .before .before .before .before .busy .ensures) ∙ c .before .before .before .if1 .left) _ _ (mode-skipping (c .before .before .before .before .before .before .args .s) a b (c .before .enum-told2 .given .1)) (c .skip2 .ensures) (end-skipping (seenBy (c .before .before .before .before .before .before .args .s)) (c .before .before .before .before .before .before .args .s .at) (c .before .before .before .before .before .before .args .line .now) (c .before .before .before .before .before .before .pre))
+returns-6 c = λ a b. end-skips (c .before .before .before .before .before .before .args .s) (c .before .before .before .before .before .before .args .line .now) a b (sym (c .before .before .before .before .busy .ensures .answer) ∙ c .before .before .before .if1 .left) _ _ (mode-skipping (c .before .before .before .before .before .before .args .s) a b (c .before .enum-told2 .given .1)) (c .skip2 .ensures) (end-skipping (seenBy (c .before .before .before .before .before .before .args .s)) (c .before .before .before .before .before .before .args .s .at) (c .before .before .before .before .before .before .args .line .now) (c .before .before .before .before .before .before .pre))
 
 returns-7 : tie.Need-returns-7
-returns-7 c = λ a b. end-skips (c .before .before .before .before .before .before .before .before .args .s) (c .before .before .before .before .before .before .before .before .args .line .now) a b (sym (c .before .before .before .before .before .before .busy .ensures) ∙ c .before .before .before .before .before .if1 .left) _ _ (mode-lost (c .before .before .before .before .before .before .before .before .args .s) a b (c .before .before .before .enum-told3 .given .1) (sym (c .before .before .held .ensures) ∙ c .before .if3 .left)) (c .skip3 .ensures) (end-skipping (seenBy (c .before .before .before .before .before .before .before .before .args .s)) (c .before .before .before .before .before .before .before .before .args .s .at) (c .before .before .before .before .before .before .before .before .args .line .now) (c .before .before .before .before .before .before .before .before .pre))
+returns-7 c = λ a b. end-skips (c .before .before .before .before .before .before .before .before .args .s) (c .before .before .before .before .before .before .before .before .args .line .now) a b (sym (c .before .before .before .before .before .before .busy .ensures .answer) ∙ c .before .before .before .before .before .if1 .left) _ _ (mode-lost (c .before .before .before .before .before .before .before .before .args .s) a b (c .before .before .before .enum-told3 .given .1) (sym (c .before .before .held .ensures) ∙ c .before .if3 .left)) (c .skip3 .ensures) (end-skipping (seenBy (c .before .before .before .before .before .before .before .before .args .s)) (c .before .before .before .before .before .before .before .before .args .s .at) (c .before .before .before .before .before .before .before .before .args .line .now) (c .before .before .before .before .before .before .before .before .pre))
 
 pub finish-on-spec : {M : Type 1} → statement M
 finish-on-spec =

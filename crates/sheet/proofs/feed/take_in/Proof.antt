@@ -33,7 +33,7 @@ same-length-3 : tie.Need-same-length-3 Inv-loop μ-loop
 same-length-3 c = c .before .before .before .loop .inv .3 ∙ sym (c .before .before .before .before .before .before .pre .2)
 
 returns : tie.Need-returns Inv-loop μ-loop
-returns c = record { owed = c .before .before .before .loop .inv .4; within = c .before .before .before .loop .inv .0; far = (λ e. absurd (true≢false (sym (c .if1 .taken) ∙ c .before .busy .ensures ∙ e))); some = λ e h. some-taken _ _ _ (sym (c .before .busy .ensures) ∙ c .if1 .taken) (c .before .before .before .loop .inv .5) e }
+returns c = record { owed = c .before .before .before .loop .inv .4; within = c .before .before .before .loop .inv .0; far = (λ e. absurd (true≢false (sym (c .if1 .taken) ∙ c .before .busy .ensures .answer ∙ e))); some = λ e h. some-taken _ _ _ (sym (c .before .busy .ensures .answer) ∙ c .if1 .taken) (c .before .before .before .loop .inv .5) e }
 
 find-line-requires : tie.Need-find-line-requires Inv-loop μ-loop
 find-line-requires c κs = (c .before .before .before .before .loop .inv .1, c .before .before .before .before .loop .inv .0)
@@ -48,7 +48,7 @@ same-length-6 : tie.Need-same-length-6 Inv-loop μ-loop
 same-length-6 c = c .before .before .before .before .before .before .before .before .before .loop .inv .3 ∙ sym (c .before .before .before .before .before .before .before .before .before .before .before .before .pre .2)
 
 returns-2 : tie.Need-returns-2 Inv-loop μ-loop
-returns-2 c = record { owed = kept-owes _ _ _ _ _ _ _ (c .before .before .before .before .before .before .before .before .before .loop .inv .4) (sym (c .before .before .before .before .before .before .before .busy .ensures) ∙ c .before .before .before .before .before .before .if1 .left) _ _ _ (c .before .before .before .before .find-line .ensures) (c .if2 .taken); within = c .before .before .before .before .find-line .ensures .within; far = (λ e. omega (arith, c .if2 .taken, c .before .before .before .before .find-line .ensures .within)); some = λ e h. omega (arith, c .if2 .taken, h) }
+returns-2 c = record { owed = kept-owes _ _ _ _ _ _ _ (c .before .before .before .before .before .before .before .before .before .loop .inv .4) (sym (c .before .before .before .before .before .before .before .busy .ensures .answer) ∙ c .before .before .before .before .before .before .if1 .left) _ _ _ (c .before .before .before .before .find-line .ensures) (c .if2 .taken); within = c .before .before .before .before .find-line .ensures .within; far = (λ e. omega (arith, c .if2 .taken, c .before .before .before .before .find-line .ensures .within)); some = λ e h. omega (arith, c .if2 .taken, h) }
 
 text-of-requires : tie.Need-text-of-requires Inv-loop μ-loop
 text-of-requires c κs = (c .before .before .before .before .before .find-line .ensures .ahead, c .before .before .before .before .before .find-line .ensures .within)
@@ -63,7 +63,7 @@ loop-less : tie.Need-loop-less Inv-loop μ-loop
 loop-less c = omega (arith, c .before .before .before .before .before .before .before .before .if2 .left, c .before .before .before .before .before .before .before .before .before .before .before .before .find-line .ensures .ahead, c .before .before .before .before .before .before .before .before .before .before .before .before .before .before .before .before .loop-test .taken)
 
 loop-again : tie.Need-loop-again Inv-loop μ-loop
-loop-again c = (omega (arith, c .before .before .before .before .before .before .before .before .if2 .left), c .before .before .before .before .before .before .before .before .before .before .before .before .find-line .kept .0 ∙ c .before .before .before .before .before .before .before .before .before .before .before .before .before .before .before .before .before .loop .inv .1, c .before .before .before .on-text .kept .1 .0 ∙ c .before .before .before .before .before .before .before .before .before .before .before .before .before .before .before .before .before .loop .inv .2, c .before .before .before .on-text .kept .1 .1 .0 ∙ c .before .before .before .before .before .before .before .before .before .before .before .before .before .before .before .before .before .loop .inv .3, fed-owes _ _ _ _ _ _ _ (c .before .before .before .before .before .before .before .before .before .before .before .before .before .before .before .before .before .loop .inv .4) (sym (c .before .before .before .before .before .before .before .before .before .before .before .before .before .before .before .busy .ensures) ∙ c .before .before .before .before .before .before .before .before .before .before .before .before .before .before .if1 .left) _ _ _ (c .before .before .before .before .before .before .before .before .before .before .before .before .find-line .ensures) _ _ _ (c .before .before .before .before .before .before .before .before .if2 .left) (rw (c .before .before .before .before .before .before .text-of .ensures) at (c .before .before .before .on-text .ensures)), λ z. absurd (omega arith))
+loop-again c = (omega (arith, c .before .before .before .before .before .before .before .before .if2 .left), c .before .before .before .before .before .before .before .before .before .before .before .before .find-line .kept .0 ∙ c .before .before .before .before .before .before .before .before .before .before .before .before .before .before .before .before .before .loop .inv .1, c .before .before .before .on-text .kept .1 .0 ∙ c .before .before .before .before .before .before .before .before .before .before .before .before .before .before .before .before .before .loop .inv .2, c .before .before .before .on-text .kept .1 .1 .0 ∙ c .before .before .before .before .before .before .before .before .before .before .before .before .before .before .before .before .before .loop .inv .3, fed-owes _ _ _ _ _ _ _ (c .before .before .before .before .before .before .before .before .before .before .before .before .before .before .before .before .before .loop .inv .4) (sym (c .before .before .before .before .before .before .before .before .before .before .before .before .before .before .before .busy .ensures .answer) ∙ c .before .before .before .before .before .before .before .before .before .before .before .before .before .before .if1 .left) _ _ _ (c .before .before .before .before .before .before .before .before .before .before .before .before .find-line .ensures) _ _ _ (c .before .before .before .before .before .before .before .before .if2 .left) (rw (c .before .before .before .before .before .before .text-of .ensures) at (c .before .before .before .on-text .ensures)), λ z. absurd (omega arith))
 
 same-length-7 : tie.Need-same-length-7 Inv-loop μ-loop
 same-length-7 c = c .before .loop .inv .1 ∙ sym (c .before .before .before .before .pre .0)

@@ -1,24 +1,26 @@
+use mathlib.Core.Bool.{true, false}
 use borrow.Author.Tests.{le-leb, lt-leb}
 use Rattle.sheet.specs.Owes.{isBusy}
+use Rattle.sheet.proofs.Steps.{busy-told}
 use borrow.Author.Needs.{needs}
 use Rattle.sheet.proofs.state.busy.Statement.{statement}
 use Rattle.sheet.proofs.state.busy.Tie as tie
 
 returns : tie.Need-returns
 unfolding isBusy
-returns c = simp (c .if1 .taken)
+returns c = busy-told _ true (simp (c .if1 .taken))
 
 returns-2 : tie.Need-returns-2
 unfolding isBusy
-returns-2 c = simp (c .before .if1 .left, c .if2 .taken)
+returns-2 c = busy-told _ true (simp (c .before .if1 .left, c .if2 .taken))
 
 returns-3 : tie.Need-returns-3
 unfolding isBusy
-returns-3 c = rw (c .before .before .before .before .if1 .left, c .before .before .before .if2 .left, le-leb (c .before .before .before .before .before .args .s .wires) 2048 (c .before .if3 .taken))
+returns-3 c = busy-told _ _ (rw (c .before .before .before .before .if1 .left, c .before .before .before .if2 .left, le-leb (c .before .before .before .before .before .args .s .wires) 2048 (c .before .if3 .taken)))
 
 returns-4 : tie.Need-returns-4
 unfolding isBusy
-returns-4 c = simp (c .before .before .before .if1 .left, c .before .before .if2 .left, lt-leb _ _ (c .if3 .left))
+returns-4 c = busy-told _ false (simp (c .before .before .before .if1 .left, c .before .before .if2 .left, lt-leb _ _ (c .if3 .left)))
 
 pub busy-spec : {M : Type 1} → statement M
 busy-spec = tie.close (tie.spec returns returns-2 returns-3 returns-4)
