@@ -17,11 +17,13 @@
 //! | [`sheet`] | frames and the whole machine |
 //! | [`random`] | a small deterministic generator; rows, offsets and separations |
 //! | [`sheetmaker`] | whole sheets and damaged ones |
+//! | [`longsheets`] | the long sheets of tests/sheets |
 //! | [`baseline`] | the same calls written for speed |
 
 pub mod baseline;
 pub mod form;
 pub mod halving;
+pub mod longsheets;
 pub mod numbers;
 pub mod random;
 pub mod rows;

@@ -1,7 +1,10 @@
 //! Sheets: the example of the text, every way of going wrong, and the state machine.
 
+use std::{fs, path::Path};
+
 use crate::baseline::answer_stream;
 use crate::form::Wish;
+use crate::longsheets::{long_sheets, READ, WRITTEN};
 use crate::numbers::*;
 use crate::random::*;
 use crate::sheet::*;
@@ -457,5 +460,29 @@ fn lines_longer_than_any_frame() {
             };
             assert_eq!(refusals(&sheet), expected);
         }
+    }
+}
+
+/// The sheets of tests/sheets: the stored answers are the reference's, and the long sheets are those that are made here.
+#[test]
+fn stored_sheets() {
+    let folder = Path::new(env!("CARGO_MANIFEST_DIR")).join("../../tests/sheets");
+    let mut stored = 0;
+    for entry in fs::read_dir(&folder).unwrap() {
+        let path = entry.unwrap().path();
+        if path.extension().is_some_and(|e| e == "in") {
+            let sheet = fs::read(&path).unwrap();
+            let answer = fs::read(path.with_extension("out")).unwrap();
+            assert!(answer == answer_sheet(&sheet), "{}", path.display());
+            stored += 1;
+        }
+    }
+    let long = long_sheets();
+    assert!(stored > long.len());
+    for (name, sheet) in long {
+        assert!(sheet.len() > READ, "{name}");
+        assert!(answer_sheet(&sheet).len() > WRITTEN, "{name}");
+        let path = folder.join(name).with_extension("in");
+        assert!(sheet == fs::read(path).unwrap(), "{name}");
     }
 }
