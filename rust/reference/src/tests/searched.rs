@@ -94,6 +94,41 @@ fn some_larger_jumpers_around_their_least_separation() {
     }
 }
 
+/// The two pads that a witness names prevent a wiring: no rows that have them at the same columns have one, whatever their other
+/// pads. RIGHT names top pad i and bottom pad i + s, LEFT bottom pad i and top pad i + s.
+#[test]
+fn two_pads_prevent_it() {
+    let (mut right, mut left) = (0, 0);
+    for n in 1..=3 {
+        let rows = all_rows(n, 4);
+        for (a, b) in rows.iter().flat_map(|a| rows.iter().map(move |b| (a, b))) {
+            for (s, d) in (0..n).flat_map(|s| (-4..=4).map(move |d| (s, d))) {
+                let answer = fit(a, b, s, d);
+                if answer.refusal != NOFIT {
+                    continue;
+                }
+                let i = answer.pair;
+                let (below, above) = if answer.side == RIGHT {
+                    right += 1;
+                    (i + s, i)
+                } else {
+                    left += 1;
+                    (i, i + s)
+                };
+                for other in rows.iter().filter(|row| row[below] == a[below]) {
+                    for top in rows.iter().filter(|row| row[above] == b[above]) {
+                        assert!(
+                            !exists_wiring(other, top, s, d),
+                            "{other:?} {top:?} at ({s}, {d}), as {a:?} {b:?}"
+                        );
+                    }
+                }
+            }
+        }
+    }
+    assert!(right > 500 && left > 500);
+}
+
 #[test]
 fn two_searches_agree() {
     let mut random = Random::new(13);
