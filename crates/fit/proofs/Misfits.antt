@@ -86,10 +86,10 @@ none-fits a b s d e =
 -- THE TWO PADS prevent it, in any accepted rows: what breaks the rule at pair i are these two columns alone
 module _ (a b : List ℤ) (s : ℕ) (d : ℤ) (i : ℕ) where
   pub right-pads : TooRight (length a) s (leanOf a) (leanOf b) d i → PadsPrevent a b s d (i + s) i
-  right-pads r a' b' k n e f w = right-breaks {i = i} (record { inside = rw n (r .inside); above = rw (e, f) (r .above) }) (wiring-exactly k s d .0 w)
+  right-pads r a' b' k e f w = right-breaks {i = i} (record { inside = e .0; above = rw (e .1, f .1) (r .above) }) (wiring-exactly k s d .0 w)
 
   pub left-pads : TooLeft (length a) s (leanOf a) (leanOf b) d i → PadsPrevent a b s d i (i + s)
-  left-pads l a' b' k n e f w = left-breaks {i = i} (record { inside = rw n (l .inside); under = rw (e, f) (l .under) }) (wiring-exactly k s d .0 w)
+  left-pads l a' b' k e f w = left-breaks {i = i} (record { inside = omega (arith, f .0, k .equal); under = rw (e .1, f .1) (l .under) }) (wiring-exactly k s d .0 w)
 
 witness-of : (a b : List ℤ) (s : ℕ) (d : ℤ) (i : ℕ) (k : Side) → Found (leanOf a) (leanOf b) s d 0 (length a - s) (At i k) → Witness a b s d i (sideNumber k)
 witness-of a b s d i Right f =

@@ -46,10 +46,10 @@ noFit (At i k) = Refused (NoFit i k)
 abbrev pub fitOf : (a b : List ℤ) (s : ℕ) (d : ℤ) → Checked
 fitOf a b s d = orElse (checkAsked a b s d) (noFit (misfitOf a b s d))
 
--- Bottom pad i and top pad j of rows a and b prevent a wiring at (s, d): accepted rows of as many pairs that have these two pads at the same columns have
--- no legal wiring there, whatever their other pads
+-- Bottom pad i and top pad j of rows a and b prevent a wiring at (s, d): accepted rows that have these two pads at the same columns have no legal wiring
+-- there, however many other pads they have and wherever those stand
 abbrev pub PadsPrevent : (a b : List ℤ) (s : ℕ) (d : ℤ) (i j : ℕ) → Type 0
-PadsPrevent a b s d i j = (a' b' : List ℤ) → AcceptedRows a' b' → length a' ≡ length a → pad a' i ≡ pad a i → pad b' j ≡ pad b j → HasWiring a' b' s d → ⊥
+PadsPrevent a b s d i j = (a' b' : List ℤ) → AcceptedRows a' b' → (i < length a') × (pad a' i ≡ pad a i) → (j < length b') × (pad b' j ≡ pad b j) → HasWiring a' b' s d → ⊥
 
 -- the witness, by 01's numbers: pair i breaks the rule on its side (1 RIGHT, 2 LEFT), and no pair before it breaks it
 pub record Witness (a b : List ℤ) (s : ℕ) (d : ℤ) (i side : ℕ) : Type 0 where

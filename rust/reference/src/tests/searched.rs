@@ -1,5 +1,7 @@
 //! The rule of fit against a search that knows nothing of it.
 
+use std::collections::HashSet;
+
 use super::*;
 use crate::numbers::*;
 use crate::random::*;
@@ -94,39 +96,42 @@ fn some_larger_jumpers_around_their_least_separation() {
     }
 }
 
-/// The two pads that a witness names prevent a wiring: no rows that have them at the same columns have one, whatever their other
-/// pads. RIGHT names top pad i and bottom pad i + s, LEFT bottom pad i and top pad i + s.
+/// The two pads that a witness names prevent a wiring: no rows that have them at the same columns have one, however many other pads
+/// they have. RIGHT names top pad i and bottom pad i + s, LEFT bottom pad i and top pad i + s.
 #[test]
 fn two_pads_prevent_it() {
-    let (mut right, mut left) = (0, 0);
-    for n in 1..=3 {
-        let rows = all_rows(n, 4);
-        for (a, b) in rows.iter().flat_map(|a| rows.iter().map(move |b| (a, b))) {
-            for (s, d) in (0..n).flat_map(|s| (-4..=4).map(move |d| (s, d))) {
-                let answer = fit(a, b, s, d);
-                if answer.refusal != NOFIT {
-                    continue;
-                }
+    let rows: Vec<Vec<i32>> = (1..=3).flat_map(|n| all_rows(n, 4)).collect();
+    let jumpers = || {
+        rows.iter()
+            .flat_map(|a| rows.iter().map(move |b| (a, b)))
+            .filter(|(a, b)| a.len() == b.len())
+    };
+    // Each pair of pads with a separation and an offset that a witness names.
+    let mut named = HashSet::new();
+    for (a, b) in jumpers() {
+        for (s, d) in (0..a.len()).flat_map(|s| (-4..=4).map(move |d| (s, d))) {
+            let answer = fit(a, b, s, d);
+            if answer.refusal == NOFIT {
                 let i = answer.pair;
                 let (below, above) = if answer.side == RIGHT {
-                    right += 1;
                     (i + s, i)
                 } else {
-                    left += 1;
                     (i, i + s)
                 };
-                for other in rows.iter().filter(|row| row[below] == a[below]) {
-                    for top in rows.iter().filter(|row| row[above] == b[above]) {
-                        assert!(
-                            !exists_wiring(other, top, s, d),
-                            "{other:?} {top:?} at ({s}, {d}), as {a:?} {b:?}"
-                        );
-                    }
-                }
+                named.insert((s, d, (below, a[below]), (above, b[above])));
             }
         }
     }
-    assert!(right > 500 && left > 500);
+    let mut seen = 0;
+    for (s, d, below, above) in named {
+        for (a, b) in jumpers() {
+            if a.get(below.0) == Some(&below.1) && b.get(above.0) == Some(&above.1) {
+                assert!(!exists_wiring(a, b, s, d), "{a:?} {b:?} at ({s}, {d})");
+                seen += 1;
+            }
+        }
+    }
+    assert!(seen > 4_000, "{seen}");
 }
 
 #[test]
