@@ -1,5 +1,5 @@
 -- Taking in and giving, together; and the law of the whole sheet: however it is cut in pieces and however small the buffers are, what comes out
--- in all is its answer.
+-- in all is its answer, where each call writes from the buffer's start.
 use lib.IntN.{ℤ}
 use mathlib.Core.Path.{_≡_, refl, sym, ap, _∙_}
 use mathlib.Core.Bool.{Bool, true, false}

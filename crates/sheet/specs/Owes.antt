@@ -2,7 +2,7 @@
 --
 -- `owes s line a b rest` is all that is still to come out, for any rest of the sheet. A fresh state owes `answers sheet`; each call hands out a
 -- part of what is owed and leaves a state that owes what is left. So whatever the pieces are, what comes out in all is `answers sheet`
--- (the law `whole-sheet` of proofs/Feeds.antt).
+-- (the law `whole-sheet` of proofs/Feeds.antt, for runs that empty the buffer after each call).
 use mathlib.Core.Bool.{Bool, true, false, cond}
 use mathlib.Core.Path.{_≡_}
 use mathlib.Core.List.{List, [], _∷_, _++_}
