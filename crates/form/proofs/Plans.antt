@@ -19,6 +19,7 @@ use Rattle.jumper.specs.Rows.{AcceptedRows, checkedNumbers, unlessRefused, orEl
 use Rattle.jumper.specs.Asked.{checkTracks, checkOffset, checkAsked, AcceptedTracks}
 use Rattle.jumper.specs.Range.{wholeRange, isEmpty}
 use Rattle.jumper.specs.Span.{lowestAt, highestAt, rangeOf}
+use Rattle.jumper.specs.declared.refusal.Side.{Side}
 use Rattle.jumper.specs.declared.refusal.Refusal.{Refusal}
 use Rattle.jumper.specs.declared.refusal.Refusal.the-variants.{NoOffset}
 use Rattle.jumper.specs.declared.refusal.Numbers.{Numbers}
@@ -61,6 +62,18 @@ least-early a b d r e =
     go Accepted l (suc s) None e = omega arith
     go Accepted l (suc s) (At i k) e = omega arith
 
+-- and one above 0 has a witness
+least-some : (a b : List ℤ) (d : ℤ) (t i : ℕ) (side : Side) → Tracks t i side ≡ leastAnswer a b d → t ≡ 0 → ⊥
+least-some a b d t i side e z =
+    let s = leastOf (leanOf a) (leanOf b) d (length a) in
+    go (checkOffset a b d) s (misfitOf a b (s - 1) d) e
+  where
+    go : (c : Checked) (s : ℕ) (m : Misfit) → Tracks t i side ≡ unlessRefused c NoLeast (withWitness s m) → ⊥
+    go (Refused q) s m e = let f : _≡_ {A = ℕ} 0 1 = cc in omega arith
+    go Accepted zero m e = let f : _≡_ {A = ℕ} 0 1 = cc in omega arith
+    go Accepted (suc s) None e = let f : _≡_ {A = ℕ} 0 1 = cc in omega arith
+    go Accepted (suc s) (At j k) e = let f : t ≡ suc s = cc in omega arith
+
 -- and so there is a best one: its refusals are those of the rows, and BUFFER
 best-early : (a b : List ℤ) (before : List ℕ) (r : Refusal) → NoBest r ≡ bestAnswer a b before → refusalNumbers r .refusal ≤ 9
 best-early a b before r e = go (checkRows a b) (early-rows a b) (ltb (length before) (length (ladderOf a b))) (ap (λ (q : Best). bestNumbers q .refusal) e)
@@ -70,7 +83,7 @@ best-early a b before r e = go (checkRows a b) (early-rows a b) (ltb (length bef
     go Accepted l true e = omega arith
     go Accepted l false e = omega arith
 
--- a separation and an offset are refused with at most 10, a separation alone with 11 or at most 6
+-- a separation and an offset are refused with at most 10; a separation alone never with 10
 fit-early : (a b : List ℤ) (s : ℕ) (d : ℤ) (r : Refusal) → Refused r ≡ fitOf a b s d → refusalNumbers r .refusal ≤ 10
 fit-early a b s d r e = go (checkAsked a b s d) (early-asked a b s d) (misfitOf a b s d) (ap (λ (c : Checked). checkedNumbers c .refusal) e)
   where
@@ -142,6 +155,7 @@ module _ (a b : List ℤ) where
         prevents = p;
         none = o;
         names = n;
+        numbered = λ z. (r, refl);
         rows = λ z. absurd (numbered r z);
         drawable = λ z. absurd (numbered r z);
         known = k .few;
@@ -154,10 +168,11 @@ module _ (a b : List ℤ) where
       record {
         answer = ap (fitPlan s d) (h .answer);
         accepts = ((λ z. w), (λ z. refl));
-        means = λ z. record { named = (refl, refl, refl); fits = w .1 };
+        means = λ z. record { named = refl; fits = w .1 };
         prevents = ((λ z. absurd (omega arith)), (λ z. absurd (z .1 (w .1))));
         none = ((λ z. omega arith), (λ z. absurd z));
         names = λ z. absurd (omega arith);
+        numbered = λ z. absurd (z refl);
         rows = λ z. w .0 .rows;
         drawable = λ z. w;
         known = omega arith;
@@ -169,18 +184,20 @@ module _ (a b : List ℤ) where
       (rw (← h .answer) at (known-fit a b s d))
 
   -- a least separation s that was found, with its witness
-  least-found : (d : ℤ) (l : Least) (s i k : ℕ) → leastPlan d l ≡ plannedWith s d d i k 0 → leastNumbers l ≡ foundLeast s i k → LeastAnswer a b d l → PlanAnswer (Leastwise d) a b (plannedWith s d d i k 0)
-  least-found d l s i k f e h =
+  least-found : (d : ℤ) (l : Least) (s i k : ℕ) → leastPlan d l ≡ plannedWith s d d i k 0 → leastNumbers l ≡ foundLeast s i k → (s ≡ 0 → (i ≡ 0) × (k ≡ 0)) → LeastAnswer a b d l
+      → PlanAnswer (Leastwise d) a b (plannedWith s d d i k 0)
+  least-found d l s i k f e o h =
       let g = (rw e at (h .accepts)) .0 refl in
       let within = (rw e at (h .within)) refl in
       let fits = (rw e at (h .fits)) refl in
       record {
         answer = sym f ∙ ap (leastPlan d) (h .answer);
         accepts = ((λ z. (g, tt)), (λ w. refl));
-        means = λ z. record { named = (refl, refl); within = within; fits = fits; least = (rw e at (h .least)) refl; witness = (rw e at (h .witness)) refl };
+        means = λ z. record { named = refl; within = within; fits = fits; least = (rw e at (h .least)) refl; witness = (rw e at (h .witness)) refl; straight = o };
         prevents = ((λ z. omega arith), (λ z. absurd z));
         none = ((λ z. omega arith), (λ z. absurd z));
         names = tt;
+        numbered = λ z. absurd (z refl);
         rows = λ z. g .rows;
         drawable = λ z. (record { rows = g .rows; tracks = omega (arith, within, g .rows .few); offset = g .offset }, fits);
         known = omega arith;
@@ -192,8 +209,8 @@ module _ (a b : List ℤ) where
       refused-plan (Leastwise d) r (ap (leastPlan d) (h .answer)) (λ k w. h .accepts .1 k)
       ((λ z. omega (arith, least-early a b d r (h .answer))), (λ z. absurd z)) ((λ z. omega (arith, least-early a b d r (h .answer))), (λ z. absurd z)) tt
       (rw (← h .answer) at (known-least a b d))
-  least-plan d Straight h = least-found d Straight 0 0 0 refl refl h
-  least-plan d (Tracks s i side) h = least-found d (Tracks s i side) s i (sideNumber side) refl refl h
+  least-plan d Straight h = least-found d Straight 0 0 0 refl refl (λ z. (refl, refl)) h
+  least-plan d (Tracks s i side) h = least-found d (Tracks s i side) s i (sideNumber side) refl refl (λ z. absurd (least-some a b d s i side (h .answer) z)) h
 
   pub range-plan : (s : ℕ) (q : Offsets) → OffsetsAnswer a b s q → PlanAnswer (Range s) a b (rangePlan s q)
   range-plan s (NoRange r) h =
@@ -208,6 +225,7 @@ module _ (a b : List ℤ) where
         prevents = ((λ z. omega arith), (λ z. absurd z));
         none = ((λ z. absurd (omega arith)), (λ z. absurd (z .1 (r .low) fits)));
         names = λ z. absurd (omega arith);
+        numbered = λ z. absurd (z refl);
         rows = λ z. k .rows;
         drawable = λ z. (record { rows = k .rows; tracks = k .tracks; offset = accepted (decLt s (length a)) }, fits);
         known = omega arith;
@@ -238,10 +256,11 @@ module _ (a b : List ℤ) where
       record {
         answer = ap bestNumbers (h .answer) ∙ ap (λ (l : List ℕ). bestNumbers (bestAnswer a b l)) e;
         accepts = ((λ z. (k, tt)), (λ w. refl));
-        means = λ z. record { some = h .some refl; exactly = h .exactly refl; none = h .none refl; within = h .within refl; fixed = h .fixed refl; cheap = h .cheap refl };
+        means = λ z. record { named = refl; some = h .some refl; exactly = h .exactly refl; none = h .none refl; within = h .within refl; fixed = h .fixed refl; cheap = h .cheap refl };
         prevents = ((λ z. omega arith), (λ z. absurd z));
         none = ((λ z. omega arith), (λ z. absurd z));
         names = tt;
+        numbered = λ z. absurd (z refl);
         rows = λ z. k;
         drawable = λ z. (record { rows = k; tracks = omega (arith, h .below refl, k .few); offset = wired-accepted k (p .separation) (p .range .low) (h .below refl) w }, w);
         known = omega arith;

@@ -13,6 +13,7 @@ use Rattle.jumper.specs.Rows.{AcceptedRows}
 use Rattle.jumper.specs.Asked.{AcceptedTracks, AcceptedShift, Asked}
 use Rattle.jumper.specs.Range.{Within, rangeNamed, wholeRange}
 use Rattle.jumper.specs.declared.refusal.Numbers.{Numbers}
+use Rattle.jumper.specs.declared.refusal.Refusal.{Refusal}
 use Rattle.jumper.specs.declared.rows.Checked.{Checked}
 use Rattle.jumper.specs.declared.rows.Checked.the-variants.{Accepted, Refused}
 use Rattle.fit.specs.Misfit.{fitOf, Witness}
@@ -70,25 +71,27 @@ Meetable (Leastwise d) a b = Unit {0}
 Meetable (Range s) a b = (d : ℤ) × HasWiring a b s d
 Meetable Best a b = Unit {0}
 
--- WHAT AN ANSWER WITHOUT REFUSAL MEANS, by the wish
+-- WHAT AN ANSWER WITHOUT REFUSAL MEANS, by the wish. `named` says which numbers it tells; all others are 0
 pub record FitMeans (s : ℕ) (d : ℤ) (a b : List ℤ) (r : Numbers) : Type 0 where
-  pub named : (r .separation ≡ s) × (r .lowest ≡ d) × (r .highest ≡ d)
+  pub named : r ≡ plannedWith s d d 0 0 0
   pub fits : HasWiring a b s d
 
 pub record LeastMeans (d : ℤ) (a b : List ℤ) (r : Numbers) : Type 0 where
-  pub named : (r .lowest ≡ d) × (r .highest ≡ d)
+  pub named : r ≡ plannedWith (r .separation) d d (r .pair) (r .side) 0
   pub within : r .separation ≤ length a
   pub fits : HasWiring a b (r .separation) d
   pub least : (t : ℕ) → t < r .separation → HasWiring a b t d → ⊥
   pub witness : 0 < r .separation → Witness a b (r .separation - 1) d (r .pair) (r .side)
+  pub straight : r .separation ≡ 0 → (r .pair ≡ 0) × (r .side ≡ 0)
 
 pub record RangeMeans (s : ℕ) (a b : List ℤ) (r : Numbers) : Type 0 where
-  pub named : r .separation ≡ s
+  pub named : r ≡ plannedWith s (r .lowest) (r .highest) 0 0 0
   pub some : r .lowest ≤ℤ r .highest
   pub exactly : s < length a → (d : ℤ) → HasWiring a b s d ↔ Within d (rangeNamed r)
   pub every : length a ≤ s → (rangeNamed r ≡ wholeRange) × ((d : ℤ) → HasWiring a b s d)
 
 pub record BestMeans (a b : List ℤ) (r : Numbers) : Type 0 where
+  pub named : r ≡ plannedWith (r .separation) (r .lowest) (r .highest) 0 0 (r .count)
   pub some : r .lowest ≤ℤ r .highest
   pub exactly : (d : ℤ) → HasWiring a b (r .separation) d ↔ Within d (rangeNamed r)
   pub none : (t : ℕ) → t < r .separation → (d : ℤ) → HasWiring a b t d → ⊥
@@ -133,6 +136,8 @@ pub record PlanAnswer (w : Wish) (a b : List ℤ) (r : Numbers) : Type 0 where
   pub prevents : (r .refusal ≡ 10) ↔ Unfit w a b
   pub none : (r .refusal ≡ 11) ↔ Offsetless w a b
   pub names : Names w a b r
+  -- a refusal carries its own numbers; "All other result numbers are 0"
+  pub numbered : (r .refusal ≡ 0 → ⊥) → (q : Refusal) × (r ≡ refusalNumbers q)
   -- without refusal the rows are accepted, and a wiring can be drawn at the separation and the lowest offset
   pub rows : r .refusal ≡ 0 → AcceptedRows a b
   pub drawable : r .refusal ≡ 0 → Asked a b (r .separation) (r .lowest) × HasWiring a b (r .separation) (r .lowest)
