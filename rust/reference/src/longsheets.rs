@@ -1,8 +1,10 @@
-//! The long sheets of tests/sheets: longer than what the program `answersheet` reads at once, with answers longer than what it
-//! writes at once. What it reads ends at every kind of place: in a frame, between frames, in what is passed over. A program that
-//! loses a part of its input or its output, or the end of the sheet, answers one of them wrongly.
+//! The long sheets of tests/sheets: longer than what the program `answersheet` reads at once, with
+//! answers longer than what it writes at once. What it reads at once ends at every kind of place:
+//! in a frame, between frames, in lines that are bad or passed over. A program that loses a part of
+//! its input or its output, or the end of the sheet, answers one of them wrongly.
 //!
-//! `cargo run --bin longsheets -- FOLDER` writes them there, with the reference's answers.
+//! `cargo run --release --offline --manifest-path rust/Cargo.toml --bin longsheets -- tests/sheets`
+//! writes them, with the reference's answers.
 
 use crate::sheet::{frame_10, frame_11, frame_12, LEAST};
 
@@ -11,8 +13,9 @@ pub const READ: usize = 65_536;
 /// What it writes at once.
 pub const WRITTEN: usize = 131_072;
 
-/// The frames of an order for a separation and an offset, 16 columns a frame. Its rows have a pad on every third column, so an
-/// offset of twice the separation just fits, and then each wire moves on every track but where there are no pads left to hold it.
+/// The frames of an order for a separation and an offset, 16 columns a frame. Its rows have a pad on
+/// every third column, so an offset of twice the separation just fits, and then each wire moves on
+/// every track but where there are no pads left to hold it.
 fn order(line: u8, n: usize, separation: u16, offset: i32) -> Vec<Vec<u8>> {
     let row: Vec<i32> = (0..n as i32).map(|i| 3 * i).collect();
     let mut frames = vec![frame_10(line, n as u16, separation, offset)];
@@ -45,8 +48,8 @@ impl Sheet {
         self.text.extend(frames.concat());
     }
 
-    /// Straight orders of 2,048 pairs, each answered by one frame 20, as many as fit before `place`; then a bad line of zeros that
-    /// ends there.
+    /// Straight orders of 2,048 pairs, each answered by one frame 20, as many as fit before `place`;
+    /// then a bad line of zeros that ends there.
     fn fill_to(&mut self, place: usize) {
         loop {
             let straight = self.next(2_048, 0, 0);
@@ -56,12 +59,13 @@ impl Sheet {
             }
             self.put(&straight);
         }
+        assert!(self.text.len() < place);
         self.text.resize(place - 1, b'0');
         self.text.push(b'\n');
     }
 
-    /// These frames, so placed that what is read at once ends before byte `byte` of frame `frame`. A `frame` past the last stands
-    /// for their end.
+    /// These frames, so placed that what is read at once ends before byte `byte` of frame `frame`. A
+    /// `frame` past the last stands for their end.
     fn put_cut_at(&mut self, frames: &[Vec<u8>], frame: usize, byte: usize) {
         let before = frames[..frame].concat().len() + byte;
         let end = (self.text.len() + before + 1).next_multiple_of(READ);
@@ -77,9 +81,11 @@ impl Sheet {
     }
 }
 
-/// Which orders the cut goes through: 40 pairs, so a header, three frames of the bottom row and three of the top row.
+/// The pairs of an order that a cut goes through: it has a header, three frames of the bottom row
+/// and three of the top row.
 const PAIRS: usize = 40;
 
+/// In a header, between the two digits of a byte, before a line feed.
 fn cut_inside_frames() -> Vec<u8> {
     let mut sheet = Sheet::new();
     sheet.put_long_route();
@@ -92,6 +98,7 @@ fn cut_inside_frames() -> Vec<u8> {
     sheet.text
 }
 
+/// After a header, within a row, between the rows, between two orders.
 fn cut_between_frames() -> Vec<u8> {
     let mut sheet = Sheet::new();
     sheet.put_long_route();
@@ -108,15 +115,19 @@ fn cut_between_frames() -> Vec<u8> {
     sheet.text
 }
 
-fn cut_in_what_is_passed_over() -> Vec<u8> {
+/// In a bad line of an open order; in a line that is passed over; in a last line without its line
+/// feed. In the first two, what stands after the cut is a good frame by itself: the next of the row,
+/// and a header.
+fn cut_in_bad_and_passed_over_lines() -> Vec<u8> {
     let mut sheet = Sheet::new();
     sheet.put_long_route();
     let mut bad = sheet.next(PAIRS, 3, 6);
-    bad[3] = bad[3].to_ascii_lowercase();
-    sheet.put_cut_at(&bad, 3, 70);
-    let mut skipped = sheet.next(PAIRS, 3, 6);
-    skipped[1] = b"\n".to_vec();
-    sheet.put_cut_at(&skipped, 3, 33);
+    bad[3].splice(..0, *b"00");
+    sheet.put_cut_at(&bad, 3, 2);
+    let mut passed = sheet.next(PAIRS, 3, 6);
+    passed[1] = b"\n".to_vec();
+    passed[3] = [b"00".to_vec(), frame_10(60, 1, 0, 0)].concat();
+    sheet.put_cut_at(&passed, 3, 2);
     let after = sheet.next(PAIRS, LEAST, 1);
     sheet.put(&after);
     let mut unfed = sheet.next(PAIRS, 3, 6);
@@ -136,7 +147,21 @@ fn ends_with_what_is_read() -> Vec<u8> {
     sheet.text
 }
 
-/// The last order's route is longer than twice what is written at once, and all of it is owed when the sheet ends.
+/// The last line is a header that cuts an order off: when the sheet ends, that order's answer is
+/// still owed and the header's own order is open.
+fn ends_with_a_header() -> Vec<u8> {
+    let mut sheet = Sheet::new();
+    sheet.put_long_route();
+    sheet.fill_to(READ);
+    let cut_off = sheet.next(PAIRS, 3, 6);
+    sheet.put(&cut_off[..5]);
+    let open = sheet.next(PAIRS, 3, 6);
+    sheet.put(&open[..1]);
+    sheet.text
+}
+
+/// The last order's route is longer than twice what is written at once, and all of it is owed when
+/// the sheet ends.
 fn route_after_the_end() -> Vec<u8> {
     let mut sheet = Sheet::new();
     sheet.fill_to(READ);
@@ -150,8 +175,7 @@ fn answer_as_long_as_the_buffer() -> Vec<u8> {
     let mut sheet = Sheet::new();
     let exact = sheet.next(707, 6, 12);
     sheet.put(&exact);
-    let text = crate::answer_sheet(&sheet.text);
-    assert_eq!(text.len(), WRITTEN);
+    assert_eq!(crate::answer_sheet(&sheet.text).len(), WRITTEN);
     sheet.fill_to(READ);
     let last = sheet.next(PAIRS, 3, 6);
     sheet.put(&last);
@@ -159,18 +183,19 @@ fn answer_as_long_as_the_buffer() -> Vec<u8> {
 }
 
 /// The sheets, each with its name.
-pub fn long_sheets() -> Vec<(&'static str, Vec<u8>)> {
-    vec![
-        ("long_cut_inside_frames", cut_inside_frames()),
-        ("long_cut_between_frames", cut_between_frames()),
+pub fn long_sheets() -> [(&'static str, Vec<u8>); 7] {
+    [
+        ("cut_inside_frames", cut_inside_frames()),
+        ("cut_between_frames", cut_between_frames()),
         (
-            "long_cut_in_what_is_passed_over",
-            cut_in_what_is_passed_over(),
+            "cut_in_bad_and_passed_over_lines",
+            cut_in_bad_and_passed_over_lines(),
         ),
-        ("long_ends_with_what_is_read", ends_with_what_is_read()),
-        ("long_route_after_the_end", route_after_the_end()),
+        ("ends_with_what_is_read", ends_with_what_is_read()),
+        ("ends_with_a_header", ends_with_a_header()),
+        ("route_after_the_end", route_after_the_end()),
         (
-            "long_answer_as_long_as_the_buffer",
+            "answer_as_long_as_the_buffer",
             answer_as_long_as_the_buffer(),
         ),
     ]

@@ -96,8 +96,9 @@ fn some_larger_jumpers_around_their_least_separation() {
     }
 }
 
-/// The two pads that a witness names prevent a wiring: no rows that have them at the same columns have one, however many other pads
-/// they have. RIGHT names top pad i and bottom pad i + s, LEFT bottom pad i and top pad i + s.
+/// The two pads that a witness names prevent a wiring: no rows that have them at the same columns
+/// have one, however many other pads they have. RIGHT names top pad i and bottom pad i + s, LEFT
+/// bottom pad i and top pad i + s.
 #[test]
 fn two_pads_prevent_it() {
     let rows: Vec<Vec<i32>> = (1..=3).flat_map(|n| all_rows(n, 4)).collect();
