@@ -46,8 +46,8 @@ noFit (At i k) = Refused (NoFit i k)
 abbrev pub fitOf : (a b : List ℤ) (s : ℕ) (d : ℤ) → Checked
 fitOf a b s d = orElse (checkAsked a b s d) (noFit (misfitOf a b s d))
 
--- Bottom pad i and top pad j of rows a and b prevent a wiring at (s, d): accepted rows that have these two pads at the same columns have no legal wiring
--- there, however many other pads they have and wherever those stand
+-- Bottom pad i and top pad j of rows a and b prevent a wiring at (s, d): accepted rows that have these two pads at the same
+-- columns have no legal wiring there, however many other pads they have and wherever those stand
 abbrev pub PadsPrevent : (a b : List ℤ) (s : ℕ) (d : ℤ) (i j : ℕ) → Type 0
 PadsPrevent a b s d i j = (a' b' : List ℤ) → AcceptedRows a' b' → (i < length a') × (pad a' i ≡ pad a i) → (j < length b') × (pad b' j ≡ pad b j) → HasWiring a' b' s d → ⊥
 
@@ -58,8 +58,8 @@ pub record Witness (a b : List ℤ) (s : ℕ) (d : ℤ) (i side : ℕ) : Type 0 
   -- "top pad i is too far right for bottom pad i+s", and its mirror: these are the two pads that prevent a wiring
   pub pads : ((side ≡ 1) × PadsPrevent a b s d (i + s) i) ⊎ ((side ≡ 2) × PadsPrevent a b s d i (i + s))
 
--- What `fit` promises. Demand 2: it says "fits" exactly when all is accepted and a legal wiring exists, and NOFIT exactly when all is accepted and none
--- does; then it names the pads that prevent it.
+-- What `fit` promises. Demand 2: it says "fits" exactly when all is accepted and a legal wiring exists, and NOFIT exactly when all
+-- is accepted and none does; then it names the pads that prevent it.
 pub record FitAnswer (a b : List ℤ) (s : ℕ) (d : ℤ) (r : Checked) : Type 0 where
   pub answer : r ≡ fitOf a b s d
   pub fits : (checkedNumbers r .refusal ≡ 0) ↔ (Asked a b s d × HasWiring a b s d)

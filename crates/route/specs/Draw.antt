@@ -46,8 +46,8 @@ wireRefusal a b s d wire room = orElse (checkAsked a b s d) (orElse (noWire (len
 abbrev pub allRefusal : (a b : List ℤ) (s : ℕ) (d : ℤ) (room : ℕ) → Checked
 allRefusal a b s d room = orElse (checkAsked a b s d) (orElse (noRoom (length a * (s + 1)) room) (noFit (misfitOf a b s d)))
 
--- What `draw_wire` promises of a buffer `out` and what it holds after the call, `out′`: the wire that its places mean is wire `wire` of a legal wiring. NOFIT
--- is given exactly when nothing else is refused and there is no legal wiring; a refusal writes nothing.
+-- What `draw_wire` promises of a buffer `out` and what it holds after the call, `out′`: the wire that its places mean is wire `wire` of a legal wiring.
+-- NOFIT is given exactly when nothing else is refused and there is no legal wiring. A refusal writes nothing.
 pub record DrawWireAnswer (a b : List ℤ) (s : ℕ) (d : ℤ) (wire : ℕ) (out out′ : List ℤ) (r : Checked) : Type 0 where
   pub answer : r ≡ wireRefusal a b s d wire (length out)
   pub buffer : out′ ≡ bufferAfter r (wireDrawn a b s d wire out) out
@@ -59,7 +59,7 @@ pub record DrawWireAnswer (a b : List ℤ) (s : ℕ) (d : ℤ) (wire : ℕ) (out
   pub prevents : (checkedNumbers r .refusal ≡ 10) ↔ (Asked a b s d × (wire < length a) × (s < length out) × (HasWiring a b s d → ⊥))
   pub witness : checkedNumbers r .refusal ≡ 10 → Witness a b s d (checkedNumbers r .pair) (checkedNumbers r .side)
 
--- What `draw_all` promises: the wires that the places mean are a legal wiring; NOFIT and refusals in general as above.
+-- What `draw_all` promises: the wires that the places mean are a legal wiring; of NOFIT and of a refusal the same.
 pub record DrawAllAnswer (a b : List ℤ) (s : ℕ) (d : ℤ) (out out′ : List ℤ) (r : Checked) : Type 0 where
   pub answer : r ≡ allRefusal a b s d (length out)
   pub buffer : out′ ≡ bufferAfter r (allDrawn a b s d out) out

@@ -61,8 +61,8 @@ rangeAt j s = resultOf (offsetsNumbers (offsetsAnswer (j .bottom) (j .top) s))
 abbrev pub best : Jumper → List ℤ
 best j = resultOf (bestNumbers (bestAnswer (j .bottom) (j .top) (replicate 24 0)))
 
--- what a lent buffer holds after the best call and after the drawing of all wires: the call's own refusal decides, as in its promise (`buffer`). Each place
--- of it held 9 before, so that a case also shows the places beyond untouched
+-- what a lent buffer holds after the best call and after the drawing of all wires: the call's own refusal decides, as in
+-- its promise (`buffer`). Each place of it held 9 before, so that a case also shows the places beyond untouched
 abbrev pub lent : ℕ → List ℕ
 lent places = replicate places 9
 
