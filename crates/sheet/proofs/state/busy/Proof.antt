@@ -16,7 +16,10 @@ returns-2 c = busy-told _ true (simp (c .before .if1 .left, c .if2 .taken))
 
 returns-3 : tie.Need-returns-3
 unfolding isBusy
-returns-3 c = busy-told _ _ (rw (c .before .before .before .before .if1 .left, c .before .before .before .if2 .left, le-leb (c .before .before .before .before .before .args .s .wires) 2048 (c .before .if3 .taken)))
+returns-3 c =
+    let at-if2 = c .before .before .before in
+    let at-if1 = at-if2 .before in
+    busy-told _ _ (rw (at-if1 .if1 .left, at-if2 .if2 .left, le-leb (at-if1 .before .args .s .wires) 2048 (c .before .if3 .taken)))
 
 returns-4 : tie.Need-returns-4
 unfolding isBusy
