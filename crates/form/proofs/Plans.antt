@@ -50,6 +50,10 @@ use Rattle.form.proofs.Known.{Known, known-fit, known-least, known-rang
 use Rattle.form.specs.declared.wish.Wish.{Wish}
 use Rattle.form.specs.declared.wish.Wish.the-variants.{Fit, Least as Leastwise, Range, Best as Bestwise}
 
+-- a number that is never given, since what is given lies below it
+never-above : (n k : ℕ) → n < k → (n ≡ k) ↔ ⊥
+never-above n k h = ((λ e. omega arith), (λ z. absurd z))
+
 -- WITH WHICH NUMBERS A WISH IS REFUSED. A least separation there always is: its refusals are those of the checks
 least-early : (a b : List ℤ) (d : ℤ) (r : Refusal) → NoLeast r ≡ leastAnswer a b d → refusalNumbers r .refusal ≤ 7
 least-early a b d r e =
@@ -101,7 +105,8 @@ range-early a b s r e z = go (checkTracks a b s) (early-tracks a b s) (ltb s (le
     places : Refusal
     places = NoOffset (lowestAt (length a) (leanOf a) (leanOf b) s) (highestAt (length a) (leanOf a) (leanOf b) s)
 
-    go : (c : Checked) → Early 6 c → (t u : Bool) → refusalNumbers r .refusal ≡ offsetsNumbers (unlessRefused c NoRange (cond t (cond u (NoRange places) (Offered o)) (Offered wholeRange))) .refusal → ⊥
+    go : (c : Checked) → Early 6 c → (t u : Bool)
+        → refusalNumbers r .refusal ≡ offsetsNumbers (unlessRefused c NoRange (cond t (cond u (NoRange places) (Offered o)) (Offered wholeRange))) .refusal → ⊥
     go (Refused q) l t u e = omega arith
     go Accepted l true true e = omega arith
     go Accepted l true false e = omega arith
@@ -170,7 +175,7 @@ module _ (a b : List ℤ) where
         accepts = ((λ z. w), (λ z. refl));
         means = λ z. record { named = refl; fits = w .1 };
         prevents = ((λ z. absurd (omega arith)), (λ z. absurd (z .1 (w .1))));
-        none = ((λ z. omega arith), (λ z. absurd z));
+        none = never-above 0 11 (omega arith);
         names = λ z. absurd (omega arith);
         numbered = λ z. absurd (z refl);
         rows = λ z. w .0 .rows;
@@ -180,12 +185,12 @@ module _ (a b : List ℤ) where
       }
   fit-plan s d (Refused r) h =
       refused-plan (Fit s d) r (ap (fitPlan s d) (h .answer)) (λ k w. h .fits .1 (k, w)) (h .prevents)
-      ((λ z. omega (arith, fit-early a b s d r (h .answer))), (λ z. absurd z)) (h .witness)
+      (never-above _ 11 (omega (arith, fit-early a b s d r (h .answer)))) (h .witness)
       (rw (← h .answer) at (known-fit a b s d))
 
   -- a least separation s that was found, with its witness
-  least-found : (d : ℤ) (l : Least) (s i k : ℕ) → leastPlan d l ≡ plannedWith s d d i k 0 → leastNumbers l ≡ foundLeast s i k → (s ≡ 0 → (i ≡ 0) × (k ≡ 0)) → LeastAnswer a b d l
-      → PlanAnswer (Leastwise d) a b (plannedWith s d d i k 0)
+  least-found : (d : ℤ) (l : Least) (s i k : ℕ) → leastPlan d l ≡ plannedWith s d d i k 0 → leastNumbers l ≡ foundLeast s i k → (s ≡ 0 → (i ≡ 0) × (k ≡ 0))
+      → LeastAnswer a b d l → PlanAnswer (Leastwise d) a b (plannedWith s d d i k 0)
   least-found d l s i k f e o h =
       let g = (rw e at (h .accepts)) .0 refl in
       let within = (rw e at (h .within)) refl in
@@ -194,8 +199,8 @@ module _ (a b : List ℤ) where
         answer = sym f ∙ ap (leastPlan d) (h .answer);
         accepts = ((λ z. (g, tt)), (λ w. refl));
         means = λ z. record { named = refl; within = within; fits = fits; least = (rw e at (h .least)) refl; witness = (rw e at (h .witness)) refl; straight = o };
-        prevents = ((λ z. omega arith), (λ z. absurd z));
-        none = ((λ z. omega arith), (λ z. absurd z));
+        prevents = never-above 0 10 (omega arith);
+        none = never-above 0 11 (omega arith);
         names = tt;
         numbered = λ z. absurd (z refl);
         rows = λ z. g .rows;
@@ -207,7 +212,8 @@ module _ (a b : List ℤ) where
   pub least-plan : (d : ℤ) (l : Least) → LeastAnswer a b d l → PlanAnswer (Leastwise d) a b (leastPlan d l)
   least-plan d (NoLeast r) h =
       refused-plan (Leastwise d) r (ap (leastPlan d) (h .answer)) (λ k w. h .accepts .1 k)
-      ((λ z. omega (arith, least-early a b d r (h .answer))), (λ z. absurd z)) ((λ z. omega (arith, least-early a b d r (h .answer))), (λ z. absurd z)) tt
+      (never-above _ 10 (omega (arith, least-early a b d r (h .answer))))
+      (never-above _ 11 (omega (arith, least-early a b d r (h .answer)))) tt
       (rw (← h .answer) at (known-least a b d))
   least-plan d Straight h = least-found d Straight 0 0 0 refl refl (λ z. (refl, refl)) h
   least-plan d (Tracks s i side) h = least-found d (Tracks s i side) s i (sideNumber side) refl refl (λ z. absurd (least-some a b d s i side (h .answer) z)) h
@@ -222,7 +228,7 @@ module _ (a b : List ℤ) where
         answer = ap (rangePlan s) (h .answer);
         accepts = ((λ z. (k, (r .low, fits))), (λ w. refl));
         means = λ z. record { named = refl; some = h .some refl; exactly = h .exactly refl; every = h .every refl };
-        prevents = ((λ z. omega arith), (λ z. absurd z));
+        prevents = never-above 0 10 (omega arith);
         none = ((λ z. absurd (omega arith)), (λ z. absurd (z .1 (r .low) fits)));
         names = λ z. absurd (omega arith);
         numbered = λ z. absurd (z refl);
@@ -249,7 +255,9 @@ module _ (a b : List ℤ) where
   pub best-plan : (before after : List ℕ) (q : Best) → before ≡ replicate maxLadder 0 → BestAnswer a b before after q → PlanAnswer Bestwise a b (bestNumbers q)
   best-plan before after (NoBest r) e h =
       refused-plan Bestwise r (ap bestNumbers (h .answer) ∙ ap (λ (l : List ℕ). bestNumbers (bestAnswer a b l)) e) (λ k w. h .accepts .1 (k, rw e (ladder-room a b k)))
-      ((λ z. omega (arith, best-early a b before r (h .answer))), (λ z. absurd z)) ((λ z. omega (arith, best-early a b before r (h .answer))), (λ z. absurd z)) tt (rw (← h .answer) at (known-best a b before))
+      (never-above _ 10 (omega (arith, best-early a b before r (h .answer))))
+      (never-above _ 11 (omega (arith, best-early a b before r (h .answer)))) tt
+      (rw (← h .answer) at (known-best a b before))
   best-plan before after (Found p) e h =
       let k = h .accepts .0 refl .0 in
       let w = h .exactly refl (p .range .low) .1 (record { low = omega arithℤ; high = h .some refl }) in
@@ -257,8 +265,8 @@ module _ (a b : List ℤ) where
         answer = ap bestNumbers (h .answer) ∙ ap (λ (l : List ℕ). bestNumbers (bestAnswer a b l)) e;
         accepts = ((λ z. (k, tt)), (λ w. refl));
         means = λ z. record { named = refl; some = h .some refl; exactly = h .exactly refl; none = h .none refl; within = h .within refl; fixed = h .fixed refl; cheap = h .cheap refl };
-        prevents = ((λ z. omega arith), (λ z. absurd z));
-        none = ((λ z. omega arith), (λ z. absurd z));
+        prevents = never-above 0 10 (omega arith);
+        none = never-above 0 11 (omega arith);
         names = tt;
         numbered = λ z. absurd (z refl);
         rows = λ z. k;
