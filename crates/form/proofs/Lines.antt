@@ -13,9 +13,9 @@ use lib.IntN.{ℤ}
 use Rattle.jumper.specs.Refusals.{refusalNumbers}
 use Rattle.jumper.specs.declared.refusal.Numbers.{Numbers}
 use Rattle.jumper.specs.declared.refusal.Refusal.the-variants.{Line as NoLine}
-use Rattle.form.specs.Plan.{planOf, PlanAnswer}
+use Rattle.plan.specs.Plan.{planOf, PlanAnswer}
 use Rattle.form.specs.Line.{outside, answerOf, padsOf, bottomOf, topOf, wished, withAnswer, Inside, LineAnswer}
-use Rattle.form.specs.declared.wish.Wish.{Wish}
+use Rattle.plan.specs.declared.wish.Wish.{Wish}
 use Rattle.form.specs.declared.line.Line.{Line}
 
 -- the code's tests make no sum

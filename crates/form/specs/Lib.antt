@@ -1,4 +1,2 @@
-pub mod Wish
-pub mod Plan
 pub mod Line
 pub mod Table

@@ -1,10 +1,10 @@
 // One line's record, answered by value.
 ghost use mathlib.Core.Path.{_≡_};
 ghost use Rattle.form.specs.Line.{outside, withAnswer, LineAnswer};
-use crate::plan::plan;
-use crate::wish::wish_of;
 use jumper::refusal::Numbers;
 use jumper::refusal::Refusal;
+use plan::plan::plan;
+use plan::wish::wish_of;
 
 #[repr(C)]
 pub struct Line {

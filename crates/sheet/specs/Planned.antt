@@ -1,12 +1,12 @@
--- What a complete line is answered: what the form answers to the wish of its header.
+-- What a complete line is answered: the answer to the wish of its header, as in a form.
 use mathlib.Core.Path.{_≡_}
 use mathlib.Core.List.{List}
 use Prim.Native.Nat.{ℕ}
 use lib.IntN.{ℤ}
 use Rattle.jumper.specs.Asked.{Asked}
 use Rattle.jumper.specs.declared.refusal.Numbers.{Numbers}
-use Rattle.form.specs.Wish.{wishOf}
-use Rattle.form.specs.Plan.{planOf}
+use Rattle.plan.specs.Wish.{wishOf}
+use Rattle.plan.specs.Plan.{planOf}
 
 -- "separation (2, FFFF = least), offset (4, 80000000 = best)": the result numbers for two rows, by the separation and the offset of their header
 unfoldable pub planned : (separation : ℕ) (offset : ℤ) (a b : List ℤ) → Numbers

@@ -4,7 +4,7 @@ mod column;
 pub mod feed;
 pub mod give;
 mod line_end;
-mod plan;
+mod planned;
 mod seen;
 pub mod state;
 mod step;

@@ -8,7 +8,7 @@ ghost use Rattle.frame.specs.Puts.{puts};
 ghost use Rattle.jumper.specs.Limits.{maxPairs};
 ghost use Rattle.sheet.specs.Steps.{isHeld, readyTo, skippingTo, BottomPut, TopPut};
 ghost use Rattle.sheet.specs.Parts.{Reacted};
-use crate::plan::plan_first;
+use crate::planned::plan_first;
 use crate::state::Phase;
 use crate::state::State;
 use crate::state::cut_off;

@@ -1,9 +1,9 @@
 use mir.Syntax.{w32}
 use mir.ValLaws.{toZ-ofZ}
-use Rattle.form.proofs.Plans.{least-plan}
+use Rattle.plan.proofs.Plans.{least-plan}
 use borrow.Author.Needs.{needs}
-use Rattle.form.proofs.plan.plan_least.Statement.{statement}
-use Rattle.form.proofs.plan.plan_least.Tie as tie
+use Rattle.plan.proofs.plan.plan_least.Statement.{statement}
+use Rattle.plan.proofs.plan.plan_least.Tie as tie
 
 least-at-requires : tie.Need-least-at-requires
 least-at-requires c κs = search needs

@@ -1,7 +1,7 @@
 // The answer to a wish for two rows, in all its numbers. The form and the sheet both ask here.
 ghost use mathlib.Core.Path.{_≡_};
-ghost use Rattle.form.specs.Plan.{plannedWith, PlanAnswer};
-ghost use Rattle.form.specs.declared.wish.Wish.the-variants.{Fit, Least as Leastwise, Range, Best as Bestwise};
+ghost use Rattle.plan.specs.Plan.{plannedWith, PlanAnswer};
+ghost use Rattle.plan.specs.declared.wish.Wish.the-variants.{Fit, Least as Leastwise, Range, Best as Bestwise};
 use crate::wish::Wish;
 use best::plan::Best;
 use best::plan::best_of;

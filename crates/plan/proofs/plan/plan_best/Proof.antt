@@ -1,9 +1,9 @@
 use Rattle.whole.proofs.Machine.{back}
 use mathlib.Core.Path.{refl}
-use Rattle.form.proofs.Plans.{best-plan}
+use Rattle.plan.proofs.Plans.{best-plan}
 use borrow.Author.Needs.{needs}
-use Rattle.form.proofs.plan.plan_best.Statement.{statement}
-use Rattle.form.proofs.plan.plan_best.Tie as tie
+use Rattle.plan.proofs.plan.plan_best.Statement.{statement}
+use Rattle.plan.proofs.plan.plan_best.Tie as tie
 
 slice-aggregate-best-of : tie.Need-slice-aggregate-best-of
 slice-aggregate-best-of c = search needs

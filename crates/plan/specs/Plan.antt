@@ -25,8 +25,8 @@ use Rattle.fit.specs.declared.offsets.Offsets.{Offsets}
 use Rattle.fit.specs.declared.offsets.Offsets.the-variants.{Range as Offered, Refused as NoRange}
 use Rattle.best.specs.Halving.{maxReadAPair, ladderCount}
 use Rattle.best.specs.Best.{bestNumbers, bestAnswer, ladderOf}
-use Rattle.form.specs.declared.wish.Wish.{Wish}
-use Rattle.form.specs.declared.wish.Wish.the-variants.{Fit, Least as Leastwise, Range, Best}
+use Rattle.plan.specs.declared.wish.Wish.{Wish}
+use Rattle.plan.specs.declared.wish.Wish.the-variants.{Fit, Least as Leastwise, Range, Best}
 
 -- the numbers of an answer without refusal
 abbrev pub plannedWith : (separation : ℕ) (lowest highest : ℤ) (pair side count : ℕ) → Numbers

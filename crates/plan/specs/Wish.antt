@@ -5,8 +5,8 @@ use Prim.Native.Nat.{ℕ}
 use lib.Dec.{eqb}
 use lib.IntN.{ℤ, negsuc}
 use lib.Signed.{leZ}
-use Rattle.form.specs.declared.wish.Wish.{Wish}
-use Rattle.form.specs.declared.wish.Wish.the-variants.{Fit, Least, Range, Best}
+use Rattle.plan.specs.declared.wish.Wish.{Wish}
+use Rattle.plan.specs.declared.wish.Wish.the-variants.{Fit, Least, Range, Best}
 
 -- FFFF
 abbrev pub leastMark : ℕ

@@ -1,6 +1,6 @@
 // What a line wishes: a separation or "least", an offset or "best".
 ghost use mathlib.Core.Path.{_≡_};
-ghost use Rattle.form.specs.Wish.{wishOf};
+ghost use Rattle.plan.specs.Wish.{wishOf};
 
 pub enum Wish {
     // Does this separation fit at this offset?

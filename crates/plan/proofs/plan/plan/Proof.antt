@@ -1,7 +1,7 @@
 use Rattle.whole.proofs.Machine.{back}
 use borrow.Author.Needs.{needs}
-use Rattle.form.proofs.plan.plan.Statement.{statement}
-use Rattle.form.proofs.plan.plan.Tie as tie
+use Rattle.plan.proofs.plan.plan.Statement.{statement}
+use Rattle.plan.proofs.plan.plan.Tie as tie
 
 enum-known-wish : tie.Need-enum-known-wish
 enum-known-wish c = search needs

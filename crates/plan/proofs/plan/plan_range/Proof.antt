@@ -1,8 +1,8 @@
 use Rattle.whole.proofs.Machine.{back}
-use Rattle.form.proofs.Plans.{range-plan}
+use Rattle.plan.proofs.Plans.{range-plan}
 use borrow.Author.Needs.{needs}
-use Rattle.form.proofs.plan.plan_range.Statement.{statement}
-use Rattle.form.proofs.plan.plan_range.Tie as tie
+use Rattle.plan.proofs.plan.plan_range.Statement.{statement}
+use Rattle.plan.proofs.plan.plan_range.Tie as tie
 
 range-at-requires : tie.Need-range-at-requires
 range-at-requires c κs = search needs

@@ -1,9 +1,9 @@
 use mir.Syntax.{w32}
 use mir.ValLaws.{toZ-ofZ}
-use Rattle.form.proofs.Plans.{fit-plan}
+use Rattle.plan.proofs.Plans.{fit-plan}
 use borrow.Author.Needs.{needs}
-use Rattle.form.proofs.plan.plan_fit.Statement.{statement}
-use Rattle.form.proofs.plan.plan_fit.Tie as tie
+use Rattle.plan.proofs.plan.plan_fit.Statement.{statement}
+use Rattle.plan.proofs.plan.plan_fit.Tie as tie
 
 fit-requires : tie.Need-fit-requires
 fit-requires c κs = search needs

@@ -3,12 +3,12 @@ use lib.ListN.{take}
 use lib.Seq.{length-take-le}
 use mir.Syntax.{w32}
 use mir.ValLaws.{toZ-ofZ}
-use Rattle.form.specs.Plan.{planOf}
-use Rattle.form.specs.declared.wish.Wish.{Wish}
+use Rattle.plan.specs.Plan.{planOf}
+use Rattle.plan.specs.declared.wish.Wish.{Wish}
 use Rattle.sheet.specs.Planned.{planned}
 use borrow.Author.Needs.{needs}
-use Rattle.sheet.proofs.plan.plan_first.Statement.{statement}
-use Rattle.sheet.proofs.plan.plan_first.Tie as tie
+use Rattle.sheet.proofs.planned.plan_first.Statement.{statement}
+use Rattle.sheet.proofs.planned.plan_first.Tie as tie
 
 wish-of-requires : tie.Need-wish-of-requires
 wish-of-requires c κs = search needs

@@ -45,10 +45,10 @@ use Rattle.best.specs.declared.plan.Best.{Best}
 use Rattle.best.specs.declared.plan.Best.the-variants.{Found, Refused as NoBest}
 use Rattle.best.proofs.Levels.{one-level, more-levels}
 use Rattle.best.proofs.Bests.{ladder-length}
-use Rattle.form.specs.Plan.{plannedWith, fitPlan, leastPlan, rangePlan, planOf, Asks, Meetable, Unfit, Offsetless, Names, PlanAnswer}
-use Rattle.form.proofs.Known.{Known, known-fit, known-least, known-range, known-best}
-use Rattle.form.specs.declared.wish.Wish.{Wish}
-use Rattle.form.specs.declared.wish.Wish.the-variants.{Fit, Least as Leastwise, Range, Best as Bestwise}
+use Rattle.plan.specs.Plan.{plannedWith, fitPlan, leastPlan, rangePlan, planOf, Asks, Meetable, Unfit, Offsetless, Names, PlanAnswer}
+use Rattle.plan.proofs.Known.{Known, known-fit, known-least, known-range, known-best}
+use Rattle.plan.specs.declared.wish.Wish.{Wish}
+use Rattle.plan.specs.declared.wish.Wish.the-variants.{Fit, Least as Leastwise, Range, Best as Bestwise}
 
 -- a number that is never given, since what is given lies below it
 never-above : (n k : ℕ) → n < k → (n ≡ k) ↔ ⊥

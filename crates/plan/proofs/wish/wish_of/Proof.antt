@@ -1,9 +1,9 @@
 use mir.Syntax.{w32}
 use mir.ValLaws.{toZ-ofZ}
 use borrow.Author.Tests.{eq-eqb, ne-eqb}
-use Rattle.form.specs.Wish.{leastMark}
-use Rattle.form.proofs.wish.wish_of.Statement.{statement}
-use Rattle.form.proofs.wish.wish_of.Tie as tie
+use Rattle.plan.specs.Wish.{leastMark}
+use Rattle.plan.proofs.wish.wish_of.Statement.{statement}
+use Rattle.plan.proofs.wish.wish_of.Tie as tie
 
 returns : tie.Need-returns
 returns c =

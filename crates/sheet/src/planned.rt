@@ -1,10 +1,10 @@
-// What a complete line is answered: the form's answer to the wish of its header.
+// What a complete line is answered: the answer to the wish of its header.
 ghost use Prim.Native.Nat.{_≤_};
 ghost use lib.ListN.{length, take};
 ghost use Rattle.sheet.specs.Planned.{PlanTold};
-use form::plan::plan;
-use form::wish::wish_of;
 use jumper::refusal::Numbers;
+use plan::plan::plan;
+use plan::wish::wish_of;
 
 // Of the first n columns of both rows.
 pub(crate) fn plan_first(a: &[i32], b: &[i32], n: usize, separation: u32, offset: i32) -> Numbers

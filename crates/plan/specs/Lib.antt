@@ -1,0 +1,2 @@
+pub mod Wish
+pub mod Plan
