@@ -1,5 +1,6 @@
 -- What the floors above cite: Places says where the columns of a route stand, Legal that no fault is legality, Faults what the search finds, Reading that
--- no more of a table is read than its wires' places, and Answers what the calls promise, with the laws that join them. Wires and Quick are the way there.
+-- no more of a table is read than its wires' places, Answers what the calls promise, with the laws that join them, and Texts what writing frames 21 leaves
+-- to write. Wires and Quick are the way there.
 pub mod Places
 mod Wires
 pub mod Faults
@@ -7,3 +8,4 @@ pub mod Legal
 mod Quick
 pub mod Reading
 pub mod Answers
+pub mod Texts

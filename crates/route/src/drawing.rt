@@ -3,14 +3,16 @@ ghost use mathlib.Core.Path.{_≡_};
 ghost use mathlib.Core.List.{_++_};
 ghost use Prim.Native.Nat.{_+_, _*_, _≤_, _<_, min};
 ghost use lib.ListN.{length, drop};
-ghost use lib.IntN.{pos, _+ℤ_, _-ℤ_};
-ghost use Rattle.wiring.specs.Wiring.{pad, topPad};
+ghost use Rattle.wiring.specs.Wiring.{pad};
 ghost use Rattle.wiring.specs.Drawing.{rightward, leftward};
-ghost use Rattle.jumper.specs.Limits.{maxPairs, maxTracks, AcceptedOffset};
+ghost use Rattle.jumper.specs.Limits.{maxPairs, maxTracks};
 ghost use Rattle.jumper.specs.Rows.{AcceptedRow};
 ghost use Rattle.jumper.specs.Asked.{Asked};
 ghost use Rattle.route.specs.Table.{columns};
 ghost use Rattle.route.specs.Draw.{wireDrawn, allDrawn, DrawWireAnswer, DrawAllAnswer};
+use crate::column::going_left;
+use crate::column::going_right;
+use crate::column::top_pad;
 use fit::misfit::fit;
 use jumper::asked::check_asked;
 use jumper::refusal::Refusal;
@@ -61,22 +63,6 @@ pub fn draw_all(a: &[i32], b: &[i32], s: usize, d: i32, out: &mut [i32]) -> Chec
     }
 }
 
-// As far right as pad k lets a wire come that is t tracks up and t pads before it.
-fn right_limit(a: &[i32], k: usize, t: usize) -> i32
-    requires { ⌜ AcceptedRow (now a) × (k < length (now a)) × (t ≤ maxPairs) ⌝ }
-    ensures { λ r. ⌜ r ≡ pad (now (a .entry)) k -ℤ pos t ⌝ }
-{
-    a[k] - t as i32
-}
-
-// As far left as pad k lets a wire come that is t tracks up and t pads after it.
-fn left_limit(a: &[i32], k: usize, t: usize) -> i32
-    requires { ⌜ AcceptedRow (now a) × (k < length (now a)) × (t ≤ maxPairs) ⌝ }
-    ensures { λ r. ⌜ r ≡ pad (now (a .entry)) k +ℤ pos t ⌝ }
-{
-    a[k] + t as i32
-}
-
 // How many places the columns of n wires take.
 pub(crate) fn places(n: usize, s: usize) -> usize
     requires { ⌜ (n ≤ maxPairs) × (s ≤ maxTracks) ⌝ }
@@ -98,7 +84,7 @@ fn held_right(a: &[i32], c: i32, i: usize, k: usize, out: &mut [i32])
 {
     let mut t: usize = 0;
     while t < k {
-        out[t] = whole::smaller(c, right_limit(a, i + t, t));
+        out[t] = going_right(a, c, i, t);
         t += 1;
     }
 }
@@ -110,7 +96,7 @@ fn held_left(a: &[i32], c: i32, i: usize, k: usize, out: &mut [i32])
 {
     let mut t: usize = 0;
     while t < k {
-        out[t] = whole::larger(c, left_limit(a, i - t, t));
+        out[t] = going_left(a, c, i, t);
         t += 1;
     }
 }
@@ -143,14 +129,6 @@ fn draw_left(a: &[i32], c: i32, i: usize, s: usize, out: &mut [i32])
     let k = fewer(s + 1, i + 1);
     held_left(a, c, i, k, out);
     straight(c, s + 1 - k, &mut out[k..]);
-}
-
-// The column of top pad i.
-pub(crate) fn top_pad(b: &[i32], i: usize, d: i32) -> i32
-    requires { ⌜ AcceptedRow (now b) × AcceptedOffset d × (i < length (now b)) ⌝ }
-    ensures { λ r. ⌜ r ≡ topPad (now (b .entry)) d i ⌝ }
-{
-    b[i] + d
 }
 
 // Wire i into the first s + 1 places. The direction is chosen once for the whole wire.

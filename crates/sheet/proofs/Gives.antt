@@ -23,12 +23,12 @@ use Rattle.frame.specs.Puts.{puts, LinePut}
 use Rattle.frame.proofs.Puts.{take-puts, answer-length}
 use Rattle.frame.specs.declared.write.Answer.{Answer}
 use Rattle.sheet.specs.Machine.{shown, refusalText}
-use Rattle.sheet.specs.Owes.{modeOf, seenBy, routeLeft, isAsked, cutText, dueText, leftText, pending, later, isBusy, Given}
-use Rattle.sheet.specs.Parts.{GivenOn, CutGiven, DueGiven, RouteOut, AskedOut}
+use Rattle.sheet.specs.Owes.{modeOf, seenBy, cutText, dueText, leftText, pending, later, isBusy, Given}
+use Rattle.sheet.specs.Parts.{GivenOn, CutGiven, DueGiven}
 use Rattle.sheet.specs.Steps.{isHeld}
 use Rattle.sheet.specs.declared.state.State.{State}
 use Rattle.frame.proofs.Scan.{either}
-use Rattle.sheet.proofs.Routes.{route-end}
+use Rattle.route.specs.Moves.{MovesOut}
 
 -- ---- a frame 20, written or not
 
@@ -127,7 +127,7 @@ module _ (s : State) (out : List ℕ) (at : ℕ) where
 
 module _ (s : State) (a b : List ℤ) (out : List ℕ) (at : ℕ) (c : s .cut ≡ false) (d : s .due ≡ false) (fa : s .wires ≤ length a) (few : s .wires ≤ 2048) where
   pub route-given : (i t p : ℕ) (out' : List ℕ)
-      → AskedOut (s .answer .line) (s .answer .separation) (s .answer .lowest) (take (s .wires) a) (take (s .wires) b) (s .wire) (s .track) out at i t p out'
+      → MovesOut (s .answer .line) (s .answer .separation) (s .answer .lowest) (take (s .wires) a) (take (s .wires) b) (s .wire) (s .track) out at i t p out'
       → Given s a b out at (changed s (s .cut) (s .due) i t) p out'
   unfolding pending leftText isBusy
   route-given i t p out' g =
@@ -138,19 +138,6 @@ module _ (s : State) (a b : List ℤ) (out : List ℕ) (at : ℕ) (c : s .cut �
         far = λ h. let n : length (take (s .wires) a) ≡ s .wires = length-take-le (s .wires) a fa in
             let w : i < s .wires = ltb-true i (s .wires) (simp (c, d, le-leb _ _ few) at h) in g .far (omega arith);
       }
-
--- rows that are accepted, and rows that are not
-module _ (l s : ℕ) (d : ℤ) (a b : List ℤ) (i t : ℕ) (out : List ℕ) (from : ℕ) (q : Checked) (e : q ≡ checkAsked a b s d) where
-  pub asked-route : (i' t' to : ℕ) (out' : List ℕ) → q ≡ Accepted → RouteOut l s d a b i t out from i' t' to out' → AskedOut l s d a b i t out from i' t' to out'
-  asked-route i' t' to out' z r =
-      let y : isAsked a b s d ≡ true = eq-eqb _ _ (number-of (checkAsked a b s d) (sym e ∙ z)) in
-      record { gave = simp y (r .gave); fits = r .fits; far = r .far }
-
-  pub unasked-route : (f : Refusal) → q ≡ Refused f → AskedOut l s d a b i t out from (length a) 0 from out
-  unasked-route f z =
-      let w : checkedNumbers (checkAsked a b s d) ≡ refusalNumbers f = ap checkedNumbers (sym e ∙ z) in
-      let y : isAsked a b s d ≡ false = ne-eqb _ _ (λ h. numbered f (ap (λ (k : Numbers). k .refusal) (sym w) ∙ h)) in
-      record { gave = simp y; fits = (λ h. h); far = λ h. absurd (omega arith) }
 
 -- ---- one after the other
 

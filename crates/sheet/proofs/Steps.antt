@@ -31,11 +31,11 @@ use Rattle.frame.specs.declared.read.Order.{Order}
 use Rattle.frame.specs.declared.read.Said.{Said}
 use Rattle.frame.specs.declared.read.Said.the-variants.{Bad, Header, Bottom, Top}
 use Rattle.frame.specs.declared.write.Answer.{Answer}
-use Rattle.sheet.specs.Route.{wireText, wiresText}
+use Rattle.route.specs.Moves.{wireText, wiresText, routeLeft, isAsked}
 use Rattle.sheet.specs.Planned.{planned, PlanTold}
 use Rattle.sheet.specs.Machine.{Mode, ready, inside, skipping, Reaction, shown, refusalText, routeText, lineText, opens, fillsBottom, fillsTop, react, noted, atEnd, machine, answers}
 use Rattle.sheet.specs.Steps.{hasLine, withLine, noOrder, noAnswer, quietBy, owingBy, skips, refusing, headed, heading, cutOff, complete, filling, isHeld, readyTo, skippingTo, bottomTo, BottomPut, topTo, TopPut}
-use Rattle.sheet.specs.Owes.{modeBy, modeOf, seenBy, framesFrom, lastFrame, routeLeft, isAsked, leftText, pending, later, owes, isBusy, Fresh, Busy, Finished}
+use Rattle.sheet.specs.Owes.{modeBy, modeOf, seenBy, framesFrom, lastFrame, leftText, pending, later, owes, isBusy, Fresh, Busy, Finished}
 use Rattle.sheet.specs.Parts.{Reacted, TakenIn, LineFound, textIn}
 use Rattle.sheet.specs.declared.state.Phase.{Phase}
 use Rattle.sheet.specs.declared.state.Phase.the-variants.{Ready, Inside, Skipping}

@@ -1,7 +1,6 @@
--- THE definition is `answers` of Machine, over Lines, Planned and Route; Owes says what a state stands for and what the calls promise.
+-- THE definition is `answers` of Machine, over Lines and Planned; Owes says what a state stands for and what the calls promise.
 -- Steps and Parts are what the parts of the code promise each other.
 pub mod Lines
-pub mod Route
 pub mod Planned
 pub mod Machine
 pub mod Steps

@@ -19,7 +19,7 @@ use Rattle.frame.specs.Written.{answerLine}
 use Rattle.frame.specs.declared.read.Order.{Order}
 use Rattle.frame.specs.declared.write.Answer.{Answer}
 use Rattle.sheet.specs.Lines.{linesOf}
-use Rattle.sheet.specs.Route.{wiresText}
+use Rattle.route.specs.Moves.{wiresText}
 use Rattle.sheet.specs.Planned.{planned}
 
 -- "It is ready, inside a line, or skipping": inside, with what the header ordered and the columns of both rows so far

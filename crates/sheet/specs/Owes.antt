@@ -6,19 +6,15 @@
 use mathlib.Core.Bool.{Bool, true, false, cond}
 use mathlib.Core.Path.{_≡_}
 use mathlib.Core.List.{List, [], _∷_, _++_}
-use Prim.Native.Nat.{ℕ, _+_, _-_, _<_, _≤_}
+use Prim.Native.Nat.{ℕ, _+_, _<_, _≤_}
 use lib.Dec.{eqb, ltb, leb}
 use lib.ListN.{length, take, drop}
 use lib.IntN.{ℤ}
-use Rattle.wiring.specs.Wiring.{pad, topPad}
-use Rattle.wiring.specs.Drawing.{drawn}
 use Rattle.jumper.specs.Limits.{maxPairs}
-use Rattle.jumper.specs.Rows.{checkedNumbers}
-use Rattle.jumper.specs.Asked.{checkAsked}
 use Rattle.jumper.specs.declared.refusal.Refusal.the-variants.{Sequence}
 use Rattle.frame.specs.Frame.{Frame, bad, textFrame}
 use Rattle.frame.specs.Written.{answerLine}
-use Rattle.sheet.specs.Route.{wireText, wiresText}
+use Rattle.route.specs.Moves.{movesLeft}
 use Rattle.sheet.specs.Machine.{Mode, ready, inside, skipping, refusalText, machine, answers}
 use Rattle.sheet.specs.Steps.{hasLine, isHeld}
 use Rattle.sheet.specs.declared.state.Phase.{Phase}
@@ -47,17 +43,6 @@ unfoldable pub framesFrom : List ℕ → List ℕ → List Frame
 framesFrom text [] = lastFrame text
 framesFrom text (b ∷ bs) = cond (eqb b 10) (textFrame text ∷ framesFrom [] bs) (framesFrom (text ++ (b ∷ [])) bs)
 
--- the frames 21 of a route from wire i and its track t on
-unfoldable pub routeLeft : (l s : ℕ) (d : ℤ) (a b : List ℤ) (i t : ℕ) → List ℕ
-routeLeft l s d a b i t =
-    cond (ltb i (length a))
-    (wireText l (drawn (length a) (pad a) (topPad b d)) i t (s - t) ++ wiresText l (drawn (length a) (pad a) (topPad b d)) s (i + 1) (length a - (i + 1)))
-    []
-
--- rows, a separation and an offset that are accepted
-abbrev pub isAsked : (a b : List ℤ) (s : ℕ) (d : ℤ) → Bool
-isAsked a b s d = eqb (checkedNumbers (checkAsked a b s d) .refusal) 0
-
 -- what is still to write: the 20 of a line that was cut off, a 20, and the rest of a route, whose rows are in lent memory
 abbrev pub cutText : State → List ℕ
 cutText s = cond (s .cut) (refusalText (s .former) Sequence) []
@@ -66,7 +51,7 @@ abbrev pub dueText : State → List ℕ
 dueText s = cond (s .due) (answerLine (s .answer)) []
 
 abbrev pub wiredText : State → List ℤ → List ℤ → List ℕ
-wiredText s a b = cond (isAsked a b (s .answer .separation) (s .answer .lowest)) (routeLeft (s .answer .line) (s .answer .separation) (s .answer .lowest) a b (s .wire) (s .track)) []
+wiredText s a b = movesLeft (s .answer .line) (s .answer .separation) (s .answer .lowest) a b (s .wire) (s .track)
 
 unfoldable pub leftText : State → List ℤ → List ℤ → List ℕ
 leftText s a b = cond (leb (s .wires) maxPairs) (wiredText s (take (s .wires) a) (take (s .wires) b)) []

@@ -6,12 +6,9 @@ use Prim.Native.Nat.{ℕ, _+_, _-_, _<_, _≤_}
 use lib.Dec.{eqb}
 use lib.ListN.{length, getD, take, drop, set}
 use lib.IntN.{ℤ}
-use Rattle.wiring.specs.Wiring.{pad, topPad}
-use Rattle.wiring.specs.Drawing.{drawn}
 use Rattle.frame.specs.Frame.{Frame}
-use Rattle.sheet.specs.Route.{wireText}
 use Rattle.sheet.specs.Machine.{react, noted}
-use Rattle.sheet.specs.Owes.{modeOf, seenBy, framesFrom, routeLeft, isAsked, pending, later, owes, isBusy}
+use Rattle.sheet.specs.Owes.{modeOf, seenBy, framesFrom, pending, later, owes, isBusy}
 use Rattle.sheet.specs.declared.state.State.{State}
 
 -- a line's text f is taken in where nothing is to be written
@@ -71,26 +68,3 @@ pub record DueGiven (s : State) (out : List ℕ) (from : ℕ) (r : State) (to : 
   pub part : GivenOn s out from r to out'
   pub quiet : r .cut ≡ false
   pub far : r .due ≡ true → length out < to + 35
-
--- the frames 21 of a route, and of one wire, written as far as they have room
-pub record RouteOut (l s : ℕ) (d : ℤ) (a b : List ℤ) (i t : ℕ) (out : List ℕ) (from : ℕ) (i' t' to : ℕ) (out' : List ℕ) : Type 0 where
-  pub gave : take from out ++ routeLeft l s d a b i t ≡ take to out' ++ routeLeft l s d a b i' t'
-  pub fits : from ≤ length out → to ≤ length out
-  pub far : i' < length a → length out < to + 35
-
-pub record WireOut (l s : ℕ) (d : ℤ) (a b : List ℤ) (i t : ℕ) (out : List ℕ) (from : ℕ) (t' to : ℕ) (out' : List ℕ) : Type 0 where
-  pub gave : take from out ++ wireText l (drawn (length a) (pad a) (topPad b d)) i t (s - t) ≡ take to out' ++ wireText l (drawn (length a) (pad a) (topPad b d)) i t' (s - t')
-  pub fits : from ≤ length out → to ≤ length out
-  pub far : t' < s → length out < to + 35
-
--- the same, of rows that may not be accepted: then there is nothing to write
-pub record AskedOut (l s : ℕ) (d : ℤ) (a b : List ℤ) (i t : ℕ) (out : List ℕ) (from : ℕ) (i' t' to : ℕ) (out' : List ℕ) : Type 0 where
-  pub gave : take from out ++ cond (isAsked a b s d) (routeLeft l s d a b i t) [] ≡ take to out' ++ cond (isAsked a b s d) (routeLeft l s d a b i' t') []
-  pub fits : from ≤ length out → to ≤ length out
-  pub far : i' < length a → length out < to + 35
-
--- one track of a wire
-pub record TrackOut (text out : List ℕ) (from : ℕ) (done : Bool) (to : ℕ) (out' : List ℕ) : Type 0 where
-  pub wrote : done ≡ true → take to out' ≡ take from out ++ text
-  pub fits : from ≤ length out → to ≤ length out
-  pub full : done ≡ false → (to ≡ from) × (out' ≡ out) × (length out < from + 35)

@@ -12,7 +12,6 @@ use Rattle.wiring.specs.Wiring.{pad}
 use Rattle.wiring.specs.Drawing.{leftward}
 use Rattle.route.specs.Table.{columns}
 use Rattle.route.proofs.Places.{begun-next}
-use Rattle.route.proofs.Wires.{leftward-held}
 use Rattle.route.proofs.drawing.held_left.Statement.{statement}
 use Rattle.route.proofs.drawing.held_left.Tie as tie
 
@@ -26,17 +25,11 @@ loop-holds : tie.Need-loop-holds Inv-loop μ-loop
 unfolding columns
 loop-holds c = (omega arith, refl, refl)
 
-sub-left-limit : tie.Need-sub-left-limit Inv-loop μ-loop
-sub-left-limit c = search needs
+going-left-requires : tie.Need-going-left-requires Inv-loop μ-loop
+going-left-requires c κs = search needs
 
-left-limit-requires : tie.Need-left-limit-requires Inv-loop μ-loop
-left-limit-requires c κs = search needs
-
-larger-requires : tie.Need-larger-requires Inv-loop μ-loop
-larger-requires c κs = search needs
-
-mul-t11 : tie.Need-mul-t11 Inv-loop μ-loop
-mul-t11 c = search needs
+mul-t9 : tie.Need-mul-t9 Inv-loop μ-loop
+mul-t9 c = search needs
 
 slice-set-from-out : tie.Need-slice-set-from-out Inv-loop μ-loop
 slice-set-from-out c = search needs
@@ -49,16 +42,13 @@ loop-less c = search needs
 
 loop-again : tie.Need-loop-again Inv-loop μ-loop
 loop-again c =
-    let k = c .before .before .before in
+    let k = c .before .before in
     let s = k .before .args in
-    let l = c .before .left-limit in
-    let x = toZ-ofZ w32 (l .result) (sfits-of (l .ok)) ∙ l .ensures in
-    let y = toZ-ofZ w32 (c .larger .result) (sfits-of (c .larger .ok)) ∙ (rw x at (c .larger .ensures)) in
     let e = leftward (pad (s .a .now)) (toZ w32 (ofZ w32 (s .c))) (s .i) in
-    let z = sym (leftward-held 0 (pad (s .a .now)) (toZ w32 (ofZ w32 (s .c))) (s .i) (k .loop .t) (omega arith)) in (
+    let g = c .going-left in (
       omega arith,
       simp length-set (k .loop .inv .1),
-      begun-next e (s .out .now) (k .loop .out) (k .loop .t) _ (omega arith) (y ∙ z) (k .loop .inv .2),
+      begun-next e (s .out .now) (k .loop .out) (k .loop .t) _ (omega arith) (toZ-ofZ w32 (g .result) (sfits-of (g .ok)) ∙ g .ensures) (k .loop .inv .2),
     )
 
 same-length : tie.Need-same-length Inv-loop μ-loop
@@ -77,10 +67,8 @@ held-left-spec =
     Inv-loop
     μ-loop
     loop-holds
-    sub-left-limit
-    left-limit-requires
-    larger-requires
-    mul-t11
+    going-left-requires
+    mul-t9
     slice-set-from-out
     add-t
     loop-less

@@ -12,7 +12,6 @@ use Rattle.wiring.specs.Wiring.{pad}
 use Rattle.wiring.specs.Drawing.{rightward}
 use Rattle.route.specs.Table.{columns}
 use Rattle.route.proofs.Places.{begun-next}
-use Rattle.route.proofs.Wires.{rightward-held}
 use Rattle.route.proofs.drawing.held_right.Statement.{statement}
 use Rattle.route.proofs.drawing.held_right.Tie as tie
 
@@ -26,17 +25,11 @@ loop-holds : tie.Need-loop-holds Inv-loop μ-loop
 unfolding columns
 loop-holds c = (omega arith, refl, refl)
 
-add-right-limit : tie.Need-add-right-limit Inv-loop μ-loop
-add-right-limit c = search needs
+going-right-requires : tie.Need-going-right-requires Inv-loop μ-loop
+going-right-requires c κs = search needs
 
-right-limit-requires : tie.Need-right-limit-requires Inv-loop μ-loop
-right-limit-requires c κs = search needs
-
-smaller-requires : tie.Need-smaller-requires Inv-loop μ-loop
-smaller-requires c κs = search needs
-
-mul-t11 : tie.Need-mul-t11 Inv-loop μ-loop
-mul-t11 c = search needs
+mul-t9 : tie.Need-mul-t9 Inv-loop μ-loop
+mul-t9 c = search needs
 
 slice-set-from-out : tie.Need-slice-set-from-out Inv-loop μ-loop
 slice-set-from-out c = search needs
@@ -49,16 +42,13 @@ loop-less c = search needs
 
 loop-again : tie.Need-loop-again Inv-loop μ-loop
 loop-again c =
-    let k = c .before .before .before in
+    let k = c .before .before in
     let s = k .before .args in
-    let l = c .before .right-limit in
-    let x = toZ-ofZ w32 (l .result) (sfits-of (l .ok)) ∙ l .ensures in
-    let y = toZ-ofZ w32 (c .smaller .result) (sfits-of (c .smaller .ok)) ∙ (rw x at (c .smaller .ensures)) in
     let e = rightward (length (s .a .now)) (pad (s .a .now)) (toZ w32 (ofZ w32 (s .c))) (s .i) in
-    let z = sym (rightward-held (length (s .a .now)) (pad (s .a .now)) (toZ w32 (ofZ w32 (s .c))) (s .i) (k .loop .t) (omega arith)) in (
+    let g = c .going-right in (
       omega arith,
       simp length-set (k .loop .inv .1),
-      begun-next e (s .out .now) (k .loop .out) (k .loop .t) _ (omega arith) (y ∙ z) (k .loop .inv .2),
+      begun-next e (s .out .now) (k .loop .out) (k .loop .t) _ (omega arith) (toZ-ofZ w32 (g .result) (sfits-of (g .ok)) ∙ g .ensures) (k .loop .inv .2),
     )
 
 same-length : tie.Need-same-length Inv-loop μ-loop
@@ -77,10 +67,8 @@ held-right-spec =
     Inv-loop
     μ-loop
     loop-holds
-    add-right-limit
-    right-limit-requires
-    smaller-requires
-    mul-t11
+    going-right-requires
+    mul-t9
     slice-set-from-out
     add-t
     loop-less

@@ -7,14 +7,14 @@ use borrow.Author.Needs.{needs}
 use Rattle.sheet.proofs.give.give_route.Statement.{statement}
 use Rattle.sheet.proofs.give.give_route.Tie as tie
 
-slice-aggregate-route-out : tie.Need-slice-aggregate-route-out
-slice-aggregate-route-out c = sym (length-take-le _ _ (c .before .before .before .pre .2))
+slice-aggregate-give-moves : tie.Need-slice-aggregate-give-moves
+slice-aggregate-give-moves c = sym (length-take-le _ _ (c .before .before .before .pre .2))
 
-slice-aggregate-route-out-2 : tie.Need-slice-aggregate-route-out-2
-slice-aggregate-route-out-2 c = sym (length-take-le _ _ (c .before .before .before .before .pre .3))
+slice-aggregate-give-moves-2 : tie.Need-slice-aggregate-give-moves-2
+slice-aggregate-give-moves-2 c = sym (length-take-le _ _ (c .before .before .before .before .pre .3))
 
-route-out-requires : tie.Need-route-out-requires
-route-out-requires c κs = search needs
+give-moves-requires : tie.Need-give-moves-requires
+give-moves-requires c κs = search needs
 
 same-length : tie.Need-same-length
 same-length c = search needs
@@ -22,14 +22,14 @@ same-length c = search needs
 returns : tie.Need-returns
 returns c =
     let e = toZ-ofZ w32 (c .before .before .before .before .before .before .before .before .before .args .s .answer .lowest) (record { sfits = c .before .before .before .struct-told .given .1 .1 .1 .0 .1 }) in
-    route-given (c .before .before .before .before .before .before .before .before .before .args .s) _ _ _ _ (c .before .before .before .before .before .before .before .before .before .pre .0) (c .before .before .before .before .before .before .before .before .before .pre .1) (c .before .before .before .before .before .before .before .before .before .pre .2) (c .before .before .before .before .before .before .before .before .before .pre .4) _ _ _ _ (rw e at (c .before .before .route-out .ensures))
+    route-given (c .before .before .before .before .before .before .before .before .before .args .s) _ _ _ _ (c .before .before .before .before .before .before .before .before .before .pre .0) (c .before .before .before .before .before .before .before .before .before .pre .1) (c .before .before .before .before .before .before .before .before .before .pre .2) (c .before .before .before .before .before .before .before .before .before .pre .4) _ _ _ _ (rw e at (c .before .before .give-moves .ensures))
 
 pub give-route-spec : {M : Type 1} → statement M
 give-route-spec =
     tie.close
     (tie.spec
-    slice-aggregate-route-out
-    slice-aggregate-route-out-2
-    route-out-requires
+    slice-aggregate-give-moves
+    slice-aggregate-give-moves-2
+    give-moves-requires
     same-length
     returns)

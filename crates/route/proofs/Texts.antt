@@ -1,4 +1,4 @@
--- The frames 21: the column of a wire on a track, a wire that has come to its top pad's column, and what writing them leaves.
+-- The frames 21: a wire that has come to its top pad's column, and what writing them leaves to write.
 use mathlib.Core.Path.{_≡_, refl, sym, ap, _∙_, subst}
 use mathlib.Core.Bool.{Bool, true, false, cond, true≢false}
 use mathlib.Core.Logic.{⊎-elim}
@@ -9,52 +9,29 @@ use lib.Dec.{eqb, ltb, leb}
 use lib.ListN.{length, take, drop}
 use lib.IntN.{ℤ, pos, _+ℤ_, _-ℤ_}
 use lib.Signed.{_≤ℤ_, _<ℤ_, ltZ}
-use borrow.Author.Tests.{lt-ltb, le-ltb, ltb-true, ltb-false, leb-true, leb-false}
-use Rattle.whole.specs.Pick.{largerOf, smallerOf}
+use borrow.Author.Tests.{lt-ltb, le-ltb, ltb-true, ltb-false, leb-true, leb-false, eq-eqb, ne-eqb}
+use Rattle.whole.specs.Pick.{differ}
 use Rattle.whole.proofs.Arith.{up, down, arithℤ, sum, dif}
 use Rattle.whole.proofs.Order.{true-lt, false-lt, lt-false}
 use Rattle.wiring.specs.Wiring.{pad, topPad}
 use Rattle.wiring.specs.Fit.{Rising}
-use Rattle.wiring.specs.Drawing.{rightward, leftward, entry, drawn}
+use Rattle.wiring.specs.Drawing.{entry, drawn}
 use Rattle.wiring.proofs.Rule.{spread}
 use Rattle.wiring.proofs.Drawing.{Clamped, entry-clamped}
+use Rattle.jumper.specs.Refusals.{refusalNumbers}
+use Rattle.jumper.specs.Rows.{checkedNumbers}
+use Rattle.jumper.specs.Asked.{checkAsked}
+use Rattle.jumper.specs.declared.refusal.Numbers.{Numbers}
+use Rattle.jumper.specs.declared.refusal.Refusal.{Refusal}
+use Rattle.jumper.specs.declared.rows.Checked.{Checked}
+use Rattle.jumper.specs.declared.rows.Checked.the-variants.{Accepted, Refused}
+use Rattle.jumper.proofs.Accepted.{number-of, numbered}
 use Rattle.frame.specs.Written.{moveLine}
 use Rattle.frame.specs.Puts.{puts, LinePut}
-use Rattle.frame.proofs.Puts.{take-puts, answer-length, move-length}
+use Rattle.frame.proofs.Puts.{take-puts, move-length}
 use Rattle.frame.specs.declared.write.Move.{Move}
-use Rattle.whole.specs.Pick.{differ}
-use Rattle.sheet.specs.Route.{moveText, trackText, wireText, wiresText}
-use Rattle.sheet.specs.Owes.{routeLeft}
-use Rattle.sheet.specs.Parts.{RouteOut, WireOut, TrackOut}
 use Rattle.frame.proofs.Scan.{either}
-
--- ---- the column of a wire on a track, as the code picks it
-
-module _ (n : ℕ) (a : ℕ → ℤ) (c : ℤ) (i : ℕ) where
-  pub at-bottom : (t : ℕ) → t ≡ 0 → a i ≡ entry n a c i t
-  unfolding entry
-  at-bottom zero e = refl
-  at-bottom (suc t) e = absurd (omega arith)
-
-  pub left-free : (t : ℕ) → (t ≡ 0 → ⊥) → ltZ c (a i) ≡ true → i < t → c ≡ entry n a c i t
-  unfolding entry leftward
-  left-free zero e l h = absurd (e refl)
-  left-free (suc t) e l h = simp (l, lt-ltb _ _ h)
-
-  pub left-held : (t : ℕ) → (t ≡ 0 → ⊥) → ltZ c (a i) ≡ true → t ≤ i → (r : ℤ) → r ≡ largerOf c (a (i - t) +ℤ pos t) → r ≡ entry n a c i t
-  unfolding entry leftward
-  left-held zero e l h r q = absurd (e refl)
-  left-held (suc t) e l h r q = q ∙ simp (l, le-ltb _ _ h)
-
-  pub right-held : (t : ℕ) → (t ≡ 0 → ⊥) → ltZ c (a i) ≡ false → i + t < n → (r : ℤ) → r ≡ smallerOf c (a (i + t) -ℤ pos t) → r ≡ entry n a c i t
-  unfolding entry rightward
-  right-held zero e l h r q = absurd (e refl)
-  right-held (suc t) e l h r q = q ∙ simp (l, lt-ltb _ _ h)
-
-  pub right-free : (t : ℕ) → (t ≡ 0 → ⊥) → ltZ c (a i) ≡ false → n ≤ i + t → c ≡ entry n a c i t
-  unfolding entry rightward
-  right-free zero e l h = absurd (e refl)
-  right-free (suc t) e l h = simp (l, le-ltb _ _ h)
+use Rattle.route.specs.Moves.{moveText, trackText, wireText, wiresText, routeLeft, isAsked, MovesOut, RouteOut, WireOut, TrackOut}
 
 -- ---- equal columns
 
@@ -198,3 +175,16 @@ wire-still l s n a c ra i W out t p x z here ex ez d w =
 
 pub wire-full : (l s : ℕ) (e : ℕ → ℕ → ℤ) (i : ℕ) (W out out' : List ℕ) (t p : ℕ) → out' ≡ out → W ≡ take p out ++ wireText l e i t (s - t) → W ≡ take p out' ++ wireText l e i t (s - t)
 wire-full l s e i W out out' t p g w = w ∙ ap (λ (y : List ℕ). take p y ++ wireText l e i t (s - t)) (sym g)
+
+-- ---- rows that are accepted, and rows that are not
+module _ (l s : ℕ) (d : ℤ) (a b : List ℤ) (i t : ℕ) (out : List ℕ) (from : ℕ) (q : Checked) (e : q ≡ checkAsked a b s d) where
+  pub asked-route : (i' t' to : ℕ) (out' : List ℕ) → q ≡ Accepted → RouteOut l s d a b i t out from i' t' to out' → MovesOut l s d a b i t out from i' t' to out'
+  asked-route i' t' to out' z r =
+      let y : isAsked a b s d ≡ true = eq-eqb _ _ (number-of (checkAsked a b s d) (sym e ∙ z)) in
+      record { gave = simp y (r .gave); fits = r .fits; far = r .far }
+
+  pub unasked-route : (f : Refusal) → q ≡ Refused f → MovesOut l s d a b i t out from (length a) 0 from out
+  unasked-route f z =
+      let w : checkedNumbers (checkAsked a b s d) ≡ refusalNumbers f = ap checkedNumbers (sym e ∙ z) in
+      let y : isAsked a b s d ≡ false = ne-eqb _ _ (λ h. numbered f (ap (λ (k : Numbers). k .refusal) (sym w) ∙ h)) in
+      record { gave = simp y; fits = (λ h. h); far = λ h. absurd (omega arith) }

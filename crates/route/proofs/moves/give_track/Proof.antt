@@ -1,10 +1,10 @@
-use Rattle.sheet.proofs.Routes.{track-none, track-full, track-put}
+use Rattle.route.proofs.Texts.{track-none, track-full, track-put}
 use mathlib.Core.Path.{sym, _∙_}
 use mir.Syntax.{w32}
 use mir.ValLaws.{toZ-ofZ}
 use borrow.Author.Needs.{needs}
-use Rattle.sheet.proofs.give.give_track.Statement.{statement}
-use Rattle.sheet.proofs.give.give_track.Tie as tie
+use Rattle.route.proofs.moves.give_track.Statement.{statement}
+use Rattle.route.proofs.moves.give_track.Tie as tie
 
 differs-requires : tie.Need-differs-requires
 differs-requires c κs = search needs

@@ -7,10 +7,10 @@ use lib.ListN.{length, take}
 use mir.Syntax.{w32}
 use mir.Val.{toZ, ofZ}
 use mir.ValLaws.{toZ-ofZ}
-use Rattle.sheet.specs.Owes.{routeLeft}
-use Rattle.sheet.proofs.Routes.{route-more, route-stop, route-end}
-use Rattle.sheet.proofs.give.give_wires.Statement.{statement}
-use Rattle.sheet.proofs.give.give_wires.Tie as tie
+use Rattle.route.specs.Moves.{routeLeft}
+use Rattle.route.proofs.Texts.{route-more, route-stop, route-end}
+use Rattle.route.proofs.moves.give_wires.Statement.{statement}
+use Rattle.route.proofs.moves.give_wires.Tie as tie
 
 abbrev Inv-loop : tie.InvT-loop
 Inv-loop a b line s d wire track out₀ at i₀ t₀ p₀ out i t p = (length out ≡ length out₀) × (take at out₀ ++ routeLeft line s (toZ w32 d) a b wire track ≡ take p out ++ routeLeft line s (toZ w32 d) a b i t) × (at ≤ length out₀ → p ≤ length out₀)

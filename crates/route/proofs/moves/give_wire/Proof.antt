@@ -14,10 +14,10 @@ use mir.ValLaws.{toZ-ofZ}
 use Rattle.whole.proofs.Machine.{back}
 use Rattle.wiring.specs.Wiring.{pad, topPad}
 use Rattle.wiring.specs.Drawing.{entry, drawn}
-use Rattle.sheet.specs.Route.{wireText}
-use Rattle.sheet.proofs.Routes.{wire-step, wire-still, wire-full}
-use Rattle.sheet.proofs.give.give_wire.Statement.{statement}
-use Rattle.sheet.proofs.give.give_wire.Tie as tie
+use Rattle.route.specs.Moves.{wireText}
+use Rattle.route.proofs.Texts.{wire-step, wire-still, wire-full}
+use Rattle.route.proofs.moves.give_wire.Statement.{statement}
+use Rattle.route.proofs.moves.give_wire.Tie as tie
 
 abbrev Inv-loop : tie.InvT-loop
 Inv-loop a b line s d i track out₀ at c t₀ p₀ x₀ out t p x = (length out ≡ length out₀) × (t ≤ s) × (toZ w32 x ≡ entry (length a) (pad a) (topPad b (toZ w32 d) i) i t) × (take at out₀ ++ wireText line (drawn (length a) (pad a) (topPad b (toZ w32 d))) i track (s - track) ≡ take p out ++ wireText line (drawn (length a) (pad a) (topPad b (toZ w32 d))) i t (s - t)) × (at ≤ length out₀ → p ≤ length out₀)
@@ -28,15 +28,15 @@ abbrev μ-loop : tie.MeasureT-loop
 returns : tie.Need-returns Inv-loop μ-loop
 returns c = record { gave = refl; fits = (λ h. h); far = λ h. absurd (omega (arith, c .if1 .taken)) }
 
-top-column-requires : tie.Need-top-column-requires Inv-loop μ-loop
-top-column-requires c κs = let q = c .before .before .pre in let e = toZ-ofZ w32 (c .before .before .args .d) (c .before .before .fits .d) in rw e (q .0 .rows .top, q .0 .offset, omega (arith, q .1, q .0 .rows .equal))
+top-pad-requires : tie.Need-top-pad-requires Inv-loop μ-loop
+top-pad-requires c κs = let q = c .before .before .pre in let e = toZ-ofZ w32 (c .before .before .args .d) (c .before .before .fits .d) in rw e (q .0 .rows .top, q .0 .offset, omega (arith, q .1, q .0 .rows .equal))
 
 column-requires : tie.Need-column-requires Inv-loop μ-loop
 column-requires c κs = let q = c .before .before .before .pre in (q .0 .rows .bottom, q .1, omega (arith, q .0 .tracks, c .before .if1 .left))
 
 loop-holds : tie.Need-loop-holds Inv-loop μ-loop
 loop-holds c =
-    let ec = back (c .before .top-column .result) (c .before .top-column .ok) ∙ c .before .top-column .ensures in
+    let ec = back (c .before .top-pad .result) (c .before .top-pad .ok) ∙ c .before .top-pad .ensures in
     (refl, search needs, back (c .column .result) (c .column .ok) ∙ c .column .ensures ∙ ap (λ (z : ℤ). entry (length (c .before .before .before .before .args .a .now)) (pad (c .before .before .before .before .args .a .now)) z (c .before .before .before .before .args .i) (c .before .before .before .before .args .track)) ec, refl, λ h. h)
 
 differs-requires : tie.Need-differs-requires Inv-loop μ-loop
@@ -62,7 +62,7 @@ loop-again c =
     let g = c .before .before .before .before .before .before .before .before .before .before .before .before .before .before .args in
     let E : ℕ → ℕ → ℤ = drawn (length (g .a .now)) (pad (g .a .now)) (topPad (g .b .now) (toZ w32 (ofZ w32 (g .d)))) in
     let W : List ℕ = take (g .at) (g .out .now) ++ wireText (g .line) E (g .i) (g .track) (g .s - g .track) in
-    let ec = back (c .before .before .before .before .before .before .before .before .before .before .before .top-column .result) (c .before .before .before .before .before .before .before .before .before .before .before .top-column .ok) ∙ c .before .before .before .before .before .before .before .before .before .before .before .top-column .ensures in
+    let ec = back (c .before .before .before .before .before .before .before .before .before .before .before .top-pad .result) (c .before .before .before .before .before .before .before .before .before .before .before .top-pad .ok) ∙ c .before .before .before .before .before .before .before .before .before .before .before .top-pad .ensures in
     let ey = back (c .before .before .before .before .before .column2 .result) (c .before .before .before .before .before .column2 .ok) ∙ c .before .before .before .before .before .column2 .ensures ∙ ap (λ (z : ℤ). entry (length (g .a .now)) (pad (g .a .now)) z (g .i) (c .before .before .before .before .before .before .before .before .before .loop .t + 1)) ec in (
       c .before .before .before .give-track .kept .1 .0 ∙ c .before .before .before .before .before .before .before .before .before .loop .inv .0,
       omega (arith, c .before .before .before .before .before .before .before .before .loop-test .taken),
@@ -97,9 +97,9 @@ returns-3 c =
     let e = toZ-ofZ w32 (g .d) (c .before .before .before .before .before .before .before .before .fits .d) in
     let C : ℕ → ℤ = topPad (g .b .now) (toZ w32 (ofZ w32 (g .d))) in
     let W : List ℕ = take (g .at) (g .out .now) ++ wireText (g .line) (drawn (length (g .a .now)) (pad (g .a .now)) C) (g .i) (g .track) (g .s - g .track) in
-    let ec = back (c .before .before .before .before .before .top-column .result) (c .before .before .before .before .before .top-column .ok) ∙ c .before .before .before .before .before .top-column .ensures in
+    let ec = back (c .before .before .before .before .before .top-pad .result) (c .before .before .before .before .before .top-pad .ok) ∙ c .before .before .before .before .before .top-pad .ensures in
     record {
-      gave = rw e at (wire-still (g .line) (g .s) (length (g .a .now)) (pad (g .a .now)) C (c .before .before .before .before .before .before .before .before .pre .0 .rows .bottom .rising) (g .i) W (c .before .before .before .loop .out) (c .before .before .before .loop .t) (c .before .before .before .loop .p) (toZ w32 (c .before .before .before .loop .x)) (toZ w32 (ofZ w32 (c .before .before .before .before .before .top-column .result)))
+      gave = rw e at (wire-still (g .line) (g .s) (length (g .a .now)) (pad (g .a .now)) C (c .before .before .before .before .before .before .before .before .pre .0 .rows .bottom .rising) (g .i) W (c .before .before .before .loop .out) (c .before .before .before .loop .t) (c .before .before .before .loop .p) (toZ w32 (c .before .before .before .loop .x)) (toZ w32 (ofZ w32 (c .before .before .before .before .before .top-pad .result)))
           (c .before .before .before .before .before .before .before .before .pre .1) (c .before .before .before .loop .inv .2) ec (sym (c .before .differs .ensures) ∙ c .if2 .left) (c .before .before .before .loop .inv .3));
       fits = c .before .before .before .loop .inv .4;
       far = λ h. absurd (omega arith);
@@ -120,7 +120,7 @@ give-wire-spec =
     Inv-loop
     μ-loop
     returns
-    top-column-requires
+    top-pad-requires
     column-requires
     loop-holds
     differs-requires

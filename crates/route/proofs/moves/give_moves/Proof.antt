@@ -2,10 +2,10 @@ use mathlib.Core.Path.{sym, _∙_}
 use mir.Syntax.{w32}
 use mir.ValLaws.{toZ-ofZ}
 use Rattle.jumper.proofs.Checks.{accepted-asked}
-use Rattle.sheet.proofs.Gives.{asked-route, unasked-route}
+use Rattle.route.proofs.Texts.{asked-route, unasked-route}
 use borrow.Author.Needs.{needs}
-use Rattle.sheet.proofs.give.route_out.Statement.{statement}
-use Rattle.sheet.proofs.give.route_out.Tie as tie
+use Rattle.route.proofs.moves.give_moves.Statement.{statement}
+use Rattle.route.proofs.moves.give_moves.Tie as tie
 
 check-asked-requires : tie.Need-check-asked-requires
 check-asked-requires c κs = search needs
@@ -32,8 +32,8 @@ returns-2 c =
     let e = toZ-ofZ w32 (c .before .before .before .before .args .d) (c .before .before .before .before .fits .d) in
     unasked-route _ _ _ _ _ _ _ _ _ _ (rw e at (c .before .before .check-asked .ensures .answer)) _ (c .enum-told2 .given .1)
 
-pub route-out-spec : {M : Type 1} → statement M
-route-out-spec =
+pub give-moves-spec : {M : Type 1} → statement M
+give-moves-spec =
     tie.close
     (tie.spec
     check-asked-requires

@@ -8,8 +8,8 @@ use mir.ValLaws.{toZ-ofZ}
 use Rattle.whole.proofs.Machine.{back, sum-fits}
 use Rattle.wiring.specs.Wiring.{pad}
 use Rattle.jumper.proofs.Accepted.{near, near-offset}
-use Rattle.route.proofs.drawing.top_pad.Statement.{statement}
-use Rattle.route.proofs.drawing.top_pad.Tie as tie
+use Rattle.route.proofs.column.top_pad.Statement.{statement}
+use Rattle.route.proofs.column.top_pad.Tie as tie
 
 mul-result : tie.Need-mul-result
 mul-result c = search needs

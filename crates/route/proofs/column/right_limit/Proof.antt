@@ -1,6 +1,6 @@
-use mathlib.Core.Path.{_≡_}
 use Prim.Native.Nat.{_<_, _^_}
 use native.Mathlib.Omega.{arith}
+use borrow.Author.Needs.{needs}
 use lib.IntN.{pos, _-ℤ_}
 use lib.Signed.{mag}
 use mir.Syntax.{w32}
@@ -8,9 +8,8 @@ use mir.ValLaws.{toZ-pos}
 use Rattle.whole.proofs.Machine.{back, dif-fits}
 use Rattle.wiring.specs.Wiring.{pad}
 use Rattle.jumper.proofs.Accepted.{near}
-use borrow.Author.Needs.{needs}
-use Rattle.sheet.proofs.column.left_of.Statement.{statement}
-use Rattle.sheet.proofs.column.left_of.Tie as tie
+use Rattle.route.proofs.column.right_limit.Statement.{statement}
+use Rattle.route.proofs.column.right_limit.Tie as tie
 
 mul-result : tie.Need-mul-result
 mul-result c = search needs
@@ -37,6 +36,6 @@ returns c =
     let h : mag (x -ℤ pos t) < 2 ^ 31 = dif-fits x (pos t) (omega (arith, near (d .args .a .now) (d .pre .0) (d .args .k))) (omega arith) in
     rw (back x (c .result .given), toZ-pos w32 t (omega arith), back (x -ℤ pos t) h)
 
-pub left-of-spec : {M : Type 1} → statement M
-left-of-spec =
+pub right-limit-spec : {M : Type 1} → statement M
+right-limit-spec =
     tie.close (tie.spec mul-result shared-slice-copy-out-result cast-result sub-result returns)
