@@ -1,6 +1,7 @@
 -- WHAT THE CALLS PROMISE, from what their parts find; and the laws that join them: drawing all is drawing each, and what is drawn is accepted.
--- Sections: the same wires; the checker; one wire; all wires; the laws that join them.
+-- Sections: the same wires; the checker; an answer of fit; one wire; all wires; the laws that join them.
 use mathlib.Core.Path.{_≡_, refl, sym, _∙_}
+use mathlib.Core.Bool.{true, false, true≢false}
 use mathlib.Core.List.{List}
 use mathlib.Core.Logic.{_⊎_, inl, inr, _↔_}
 use Prim.Native.Nat.{ℕ, zero, suc, _+_, _*_, _≤_, _<_}
@@ -13,7 +14,8 @@ use Rattle.wiring.specs.Wiring.{at, Legal, pad, topPad, HasWiring}
 use Rattle.wiring.specs.Fit.{Rising}
 use Rattle.wiring.specs.Table.{upFrom, wireOf, LegalTable}
 use Rattle.wiring.proofs.Theorem.{shifted-rising, drawing-legal}
-use Rattle.jumper.specs.Rows.{AcceptedRows, checkedNumbers}
+use Rattle.jumper.specs.Refusals.{refusalNumbers}
+use Rattle.jumper.specs.Rows.{AcceptedRows, checkedNumbers, orElse}
 use Rattle.jumper.specs.Asked.{checkAsked, Asked}
 use Rattle.jumper.specs.declared.refusal.Refusal.{Refusal}
 use Rattle.jumper.specs.declared.refusal.Refusal.the-variants.{Wire as NoWire, Buffer, BadWire}
@@ -21,10 +23,12 @@ use Rattle.jumper.specs.declared.rows.Checked.{Checked}
 use Rattle.jumper.specs.declared.rows.Checked.the-variants.{Accepted, Refused}
 use Rattle.jumper.proofs.Accepted.{numbered, refused-not, accepted-of}
 use Rattle.jumper.proofs.Checks.{accepted-asked, asked-accepted, early-asked}
-use Rattle.fit.specs.Misfit.{FitAnswer}
+use Rattle.fit.specs.Misfit.{misfitOf, noFit, FitAnswer}
+use Rattle.fit.specs.declared.misfit.Misfit.{Misfit}
+use Rattle.fit.specs.declared.misfit.Misfit.the-variants.{None, At}
 use Rattle.jumper.proofs.Wired.{wiring-exactly}
 use Rattle.route.specs.Table.{columnIn, columns, wires, LegalRoute}
-use Rattle.route.specs.Draw.{drawnOf, drawnWires, wireDrawn, allDrawn, DrawWireAnswer, DrawAllAnswer}
+use Rattle.route.specs.Draw.{drawnOf, drawnWires, isUnasked, wireDrawn, allDrawn, DrawWireAnswer, DrawAllAnswer}
 use Rattle.route.specs.Check.{NoFault, FirstFault, firstFault, routeChecked, RouteCheck}
 use Rattle.route.proofs.Places.{columns-length, columns-at, wires-length, wires-at, wires-part}
 use Rattle.route.proofs.Faults.{searched}
@@ -120,6 +124,25 @@ module _ (a b : List ℤ) (s : ℕ) (d : ℤ) (table : List ℤ) where
 -- what is drawn is legal where a wiring exists
 drawn-legal : {a b : List ℤ} → AcceptedRows a b → (s : ℕ) (d : ℤ) → HasWiring a b s d → Legal (length a) s (pad a) (topPad b d) (drawnWires a b s d)
 drawn-legal {a} {b} r s d w = drawing-legal (length a) s (pad a) (pad b) d (r .bottom .rising) (rw (r .equal) (r .top .rising)) .1 (wiring-exactly r s d .0 w)
+
+-- AN ANSWER OF FIT tells whether what is asked is refused: 1 to 7 are the check's, and the only refusal of its own is NOFIT
+module _ (a b : List ℤ) (s : ℕ) (d : ℤ) (r : Checked) (f : FitAnswer a b s d r) where
+  refused-by : (v : Checked) (m : Misfit) → checkAsked a b s d ≡ v → r ≡ orElse v (noFit m) → isUnasked r ≡ true → (q : Refusal) × (r ≡ Refused q) × (checkAsked a b s d ≡ Refused q)
+  refused-by Accepted None e g u = absurd (true≢false (sym u ∙ rw g))
+  refused-by Accepted (At i k) e g u = absurd (true≢false (sym u ∙ rw g))
+  refused-by (Refused q) m e g u = (q, g, e)
+
+  pub unasked : isUnasked r ≡ true → (q : Refusal) × (r ≡ Refused q) × (checkAsked a b s d ≡ Refused q)
+  unasked = refused-by (checkAsked a b s d) (misfitOf a b s d) refl (f .answer)
+
+  accepted-by : (v : Checked) (m : Misfit) → checkAsked a b s d ≡ v → r ≡ orElse v (noFit m) → isUnasked r ≡ false → checkAsked a b s d ≡ Accepted
+  accepted-by Accepted m e g u = e
+  accepted-by (Refused q) m e g u =
+      let l = rw e at (early-asked a b s d) in
+      absurd (true≢false (sym (lt-ltb (refusalNumbers q .refusal) 8 (omega arith)) ∙ (rw g at u)))
+
+  pub asked : isUnasked r ≡ false → checkAsked a b s d ≡ Accepted
+  asked = accepted-by (checkAsked a b s d) (misfitOf a b s d) refl (f .answer)
 
 -- ONE WIRE
 module _ (a b : List ℤ) (s : ℕ) (d : ℤ) (wire : ℕ) (out : List ℤ) where

@@ -1,4 +1,5 @@
 -- What is drawn (01, "Drawing and checking"; refusals 1 to 7, WIRE, BUFFER and NOFIT), and what the two calls promise.
+use mathlib.Core.Bool.{Bool, false}
 use mathlib.Core.Path.{_≡_}
 use mathlib.Core.List.{List, _++_}
 use mathlib.Core.Logic.{_↔_}
@@ -9,6 +10,7 @@ use lib.IntN.{ℤ}
 use Rattle.wiring.specs.Wiring.{Point, Legal, pad, topPad, HasWiring}
 use Rattle.wiring.specs.Table.{wireOf}
 use Rattle.wiring.specs.Drawing.{drawn}
+use Rattle.jumper.specs.Refusals.{refusalNumbers}
 use Rattle.jumper.specs.Rows.{checkedNumbers, pick, unlessRefused, orElse}
 use Rattle.jumper.specs.Asked.{checkAsked, Asked}
 use Rattle.jumper.specs.declared.refusal.Refusal.the-variants.{Wire}
@@ -45,6 +47,11 @@ wireRefusal a b s d wire room = orElse (checkAsked a b s d) (orElse (noWire (len
 
 abbrev pub allRefusal : (a b : List ℤ) (s : ℕ) (d : ℤ) (room : ℕ) → Checked
 allRefusal a b s d room = orElse (checkAsked a b s d) (orElse (noRoom (length a * (s + 1)) room) (noFit (misfitOf a b s d)))
+
+-- an answer of `fit` that refuses what is asked, 1 to 7, and not the fit
+abbrev pub isUnasked : Checked → Bool
+isUnasked Accepted = false
+isUnasked (Refused r) = ltb (refusalNumbers r .refusal) 8
 
 -- What `draw_wire` promises of a buffer `out` and what it holds after the call, `out′`: the wire that its places mean is wire `wire` of a legal wiring.
 -- NOFIT is given exactly when nothing else is refused and there is no legal wiring. A refusal writes nothing.

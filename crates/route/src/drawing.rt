@@ -9,35 +9,33 @@ ghost use Rattle.jumper.specs.Limits.{maxPairs, maxTracks};
 ghost use Rattle.jumper.specs.Rows.{AcceptedRow};
 ghost use Rattle.jumper.specs.Asked.{Asked};
 ghost use Rattle.route.specs.Table.{columns};
-ghost use Rattle.route.specs.Draw.{wireDrawn, allDrawn, DrawWireAnswer, DrawAllAnswer};
+ghost use Rattle.route.specs.Draw.{isUnasked, wireDrawn, allDrawn, DrawWireAnswer, DrawAllAnswer};
 use crate::column::going_left;
 use crate::column::going_right;
 use crate::column::top_pad;
 use fit::misfit::fit;
-use jumper::asked::check_asked;
 use jumper::refusal::Refusal;
 use jumper::rows::Checked;
 
-// Wire `wire` into s + 1 places: refusals 1 to 7, WIRE, BUFFER, NOFIT.
+// Wire `wire` into s + 1 places: refusals 1 to 7, WIRE, BUFFER, NOFIT. `fit` looks at the rows, so they are looked at once.
 pub fn draw_wire(a: &[i32], b: &[i32], s: usize, d: i32, wire: usize, out: &mut [i32]) -> Checked
     ensures { λ r. ⌜ DrawWireAnswer (now (a .entry)) (now (b .entry)) s d wire (now (out .entry)) (now (out .exit)) r ⌝ }
 {
-    match check_asked(a, b, s, d) {
+    let found = fit(a, b, s, d);
+    if is_unasked(found) {
+        return found;
+    }
+    if a.len() <= wire {
+        return Checked::Refused(Refusal::Wire);
+    }
+    if out.len() <= s {
+        return Checked::Refused(Refusal::Buffer);
+    }
+    match found {
         Checked::Refused(r) => Checked::Refused(r),
         Checked::Accepted => {
-            if a.len() <= wire {
-                return Checked::Refused(Refusal::Wire);
-            }
-            if out.len() <= s {
-                return Checked::Refused(Refusal::Buffer);
-            }
-            match fit(a, b, s, d) {
-                Checked::Refused(r) => Checked::Refused(r),
-                Checked::Accepted => {
-                    draw_columns(a, b, s, d, wire, out);
-                    Checked::Accepted
-                }
-            }
+            draw_columns(a, b, s, d, wire, out);
+            Checked::Accepted
         }
     }
 }
@@ -46,19 +44,31 @@ pub fn draw_wire(a: &[i32], b: &[i32], s: usize, d: i32, wire: usize, out: &mut 
 pub fn draw_all(a: &[i32], b: &[i32], s: usize, d: i32, out: &mut [i32]) -> Checked
     ensures { λ r. ⌜ DrawAllAnswer (now (a .entry)) (now (b .entry)) s d (now (out .entry)) (now (out .exit)) r ⌝ }
 {
-    match check_asked(a, b, s, d) {
+    let found = fit(a, b, s, d);
+    if is_unasked(found) {
+        return found;
+    }
+    if out.len() < places(a.len(), s) {
+        return Checked::Refused(Refusal::Buffer);
+    }
+    match found {
         Checked::Refused(r) => Checked::Refused(r),
         Checked::Accepted => {
-            if out.len() < places(a.len(), s) {
-                return Checked::Refused(Refusal::Buffer);
-            }
-            match fit(a, b, s, d) {
-                Checked::Refused(r) => Checked::Refused(r),
-                Checked::Accepted => {
-                    draw_wires(a, b, s, d, out);
-                    Checked::Accepted
-                }
-            }
+            draw_wires(a, b, s, d, out);
+            Checked::Accepted
+        }
+    }
+}
+
+// Whether an answer of `fit` refuses what is asked. WIRE and BUFFER come after that, and before NOFIT.
+fn is_unasked(r: Checked) -> bool
+    ensures { λ q. ⌜ q ≡ isUnasked r ⌝ }
+{
+    match r {
+        Checked::Accepted => false,
+        Checked::Refused(f) => {
+            let k = f.numbers();
+            k.refusal < 8
         }
     }
 }

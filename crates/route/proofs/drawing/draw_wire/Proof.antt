@@ -3,101 +3,91 @@ use borrow.Author.Needs.{needs}
 use mir.Syntax.{w32}
 use mir.ValLaws.{toZ-ofZ}
 use Rattle.jumper.proofs.Checks.{accepted-asked}
-use Rattle.route.proofs.Answers.{wire-early, wire-none, wire-short, wire-misfit, wire-done}
+use Rattle.route.proofs.Answers.{unasked, asked, wire-early, wire-none, wire-short, wire-misfit, wire-done}
 use Rattle.route.proofs.drawing.draw_wire.Statement.{statement}
 use Rattle.route.proofs.drawing.draw_wire.Tie as tie
-
-check-asked-requires : tie.Need-check-asked-requires
-check-asked-requires c κs = search needs
-
-enum-known-r : tie.Need-enum-known-r
-enum-known-r c = search needs
-
-enum-told : tie.Need-enum-told
-enum-told c = search needs
-
-returns : tie.Need-returns
-returns c =
-    let t = c .before in
-    let k = t .before .before in
-    let s = k .before .args in
-    let ed = toZ-ofZ w32 (s .d) (k .before .fits .d) in
-    let e = rw ed at (sym (k .check-asked .ensures .answer) ∙ t .enum-told .given .1) in
-    wire-none _ _ _ _ _ _ e (c .if1 .taken)
-
-returns-2 : tie.Need-returns-2
-returns-2 c =
-    let t = c .before .before in
-    let k = t .before .before in
-    let s = k .before .args in
-    let ed = toZ-ofZ w32 (s .d) (k .before .fits .d) in
-    let e = rw ed at (sym (k .check-asked .ensures .answer) ∙ t .enum-told .given .1) in
-    wire-short _ _ _ _ _ _ e (c .before .if1 .left) (c .if2 .taken)
 
 fit-requires : tie.Need-fit-requires
 fit-requires c κs = search needs
 
-enum-known-r-2 : tie.Need-enum-known-r-2
-enum-known-r-2 c = search needs
+is-unasked-requires : tie.Need-is-unasked-requires
+is-unasked-requires c κs = search needs
 
-enum-told-2 : tie.Need-enum-told-2
-enum-told-2 c = search needs
+returns : tie.Need-returns
+returns c =
+    let u = c .before in
+    let k = u .before in
+    let ed = toZ-ofZ w32 (k .before .args .d) (k .before .fits .d) in
+    let q = unasked _ _ _ _ _ (rw ed at (k .fit .ensures)) (sym (u .is-unasked .ensures) ∙ c .if1 .taken) in
+    rw (q .1) (wire-early _ _ _ _ _ _ (q .0) (q .2))
 
-draw-columns-requires : tie.Need-draw-columns-requires
-draw-columns-requires c κs =
-    let t = c .before .before .before .before .before .before in
-    let k = t .before .before in
-    let s = k .before .args in
-    let ed = toZ-ofZ w32 (s .d) (k .before .fits .d) in
-    let e = rw ed at (sym (k .check-asked .ensures .answer) ∙ t .enum-told .given .1) in
-    (rw ed (accepted-asked _ _ _ _ e), c .before .before .before .before .before .if1 .left, c .before .before .before .before .if2 .left)
+returns-2 : tie.Need-returns-2
+returns-2 c =
+    let u = c .before .before in
+    let k = u .before in
+    let ed = toZ-ofZ w32 (k .before .args .d) (k .before .fits .d) in
+    let e = asked _ _ _ _ _ (rw ed at (k .fit .ensures)) (sym (u .is-unasked .ensures) ∙ c .before .if1 .left) in
+    wire-none _ _ _ _ _ _ e (c .if2 .taken)
 
 returns-3 : tie.Need-returns-3
 returns-3 c =
-    let t = c .before in
-    let k = t .before .before in
-    let s = k .before .args in
-    let ed = toZ-ofZ w32 (s .d) (k .before .fits .d) in
-    let e = rw ed at (sym (k .check-asked .ensures .answer) ∙ t .r .given .1) in
-    wire-early _ _ _ _ _ _ _ e
+    let u = c .before .before .before in
+    let k = u .before in
+    let ed = toZ-ofZ w32 (k .before .args .d) (k .before .fits .d) in
+    let e = asked _ _ _ _ _ (rw ed at (k .fit .ensures)) (sym (u .is-unasked .ensures) ∙ c .before .before .if1 .left) in
+    wire-short _ _ _ _ _ _ e (c .before .if2 .left) (c .if3 .taken)
+
+enum-known-found : tie.Need-enum-known-found
+enum-known-found c = search needs
+
+enum-told : tie.Need-enum-told
+enum-told c = search needs
+
+draw-columns-requires : tie.Need-draw-columns-requires
+draw-columns-requires c κs =
+    let m = c .before .before .before in
+    let u = m .before .before .before in
+    let k = u .before in
+    let ed = toZ-ofZ w32 (k .before .args .d) (k .before .fits .d) in
+    let e = asked _ _ _ _ _ (rw ed at (k .fit .ensures)) (sym (u .is-unasked .ensures) ∙ m .before .before .if1 .left) in
+    (rw ed (accepted-asked _ _ _ _ e), m .before .if2 .left, m .if3 .left)
 
 returns-4 : tie.Need-returns-4
 returns-4 c =
-    let t = c .before .before .before .before .before .before in
-    let k = t .before .before in
-    let s = k .before .args in
-    let ed = toZ-ofZ w32 (s .d) (k .before .fits .d) in
-    let e = rw ed at (sym (k .check-asked .ensures .answer) ∙ t .enum-told .given .1) in
-    let f = c .before .before .before in
-    wire-misfit _ _ _ _ _ _ e (f .before .before .if1 .left) (f .before .if2 .left) _ (rw (c .before .r2 .given .1, ed) at (f .fit .ensures))
+    let m = c .before .before .before in
+    let u = m .before .before .before in
+    let k = u .before in
+    let ed = toZ-ofZ w32 (k .before .args .d) (k .before .fits .d) in
+    let f = rw ed at (k .fit .ensures) in
+    let e = asked _ _ _ _ _ f (sym (u .is-unasked .ensures) ∙ m .before .before .if1 .left) in
+    wire-misfit _ _ _ _ _ _ e (m .before .if2 .left) (m .if3 .left) _ (rw (c .before .found .given .1) at f)
 
 same-length : tie.Need-same-length
 same-length c = search needs
 
 returns-5 : tie.Need-returns-5
 returns-5 c =
-    let t = c .before .before .before .before .before .before .before .before in
-    let k = t .before .before in
-    let s = k .before .args in
-    let ed = toZ-ofZ w32 (s .d) (k .before .fits .d) in
-    let e = rw ed at (sym (k .check-asked .ensures .answer) ∙ t .enum-told .given .1) in
-    let f = c .before .before .before .before .before in
-    wire-done _ _ _ _ _ _ e (f .before .before .if1 .left) (f .before .if2 .left) _ (rw ed at (c .before .draw-columns .ensures)) (rw (c .before .before .before .enum-told2 .given .1, ed) at (f .fit .ensures))
+    let t = c .before .before .before in
+    let m = t .before .before in
+    let u = m .before .before .before in
+    let k = u .before in
+    let ed = toZ-ofZ w32 (k .before .args .d) (k .before .fits .d) in
+    let f = rw ed at (k .fit .ensures) in
+    let e = asked _ _ _ _ _ f (sym (u .is-unasked .ensures) ∙ m .before .before .if1 .left) in
+    wire-done _ _ _ _ _ _ e (m .before .if2 .left) (m .if3 .left) _ (rw ed at (c .before .draw-columns .ensures)) (rw (t .enum-told .given .1) at f)
 
 pub draw-wire-spec : {M : Type 1} → statement M
 draw-wire-spec =
     tie.close
     (tie.spec
-    check-asked-requires
-    enum-known-r
-    enum-told
+    fit-requires
+    is-unasked-requires
     returns
     returns-2
-    fit-requires
-    enum-known-r-2
-    enum-told-2
-    draw-columns-requires
     returns-3
+    enum-known-found
+    enum-told
+    draw-columns-requires
     returns-4
     same-length
     returns-5)
