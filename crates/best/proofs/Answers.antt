@@ -9,6 +9,8 @@ use lib.ListN.{length}
 use lib.IntN.{ℤ}
 use Rattle.whole.proofs.Arith.{up, down, arithℤ}
 use Rattle.wiring.specs.Fit.{leanOf}
+use Rattle.wiring.specs.Tracks.{ruleAt, tracksFor}
+use Rattle.wiring.proofs.Serves.{rule-back, rule-below}
 use Rattle.jumper.specs.Refusals.{refusalNumbers}
 use Rattle.jumper.specs.Rows.{AcceptedRows, checkRows}
 use Rattle.jumper.specs.declared.refusal.Refusal.{Refusal}
@@ -78,15 +80,15 @@ module _ (a b : List ℤ) (before : List ℕ) where
           exactly = λ q d.
               let s = halvingOf a b .best in
               let r = range-exactly (length a) (leanOf a) (leanOf b) s inside d in
-              let f = wiring-exactly rows s d in
+              let f = rw (rule-back s) at (wiring-exactly rows (tracksFor s) d) in
               ((λ w. let v = r .1 (f .0 w) in record { low = v .low; high = v .high }), (λ v. f .1 (r .0 (record { low = v .low; high = v .high }))));
           some = λ q.
               let d = best .some .0 in
               let v = range-exactly (length a) (leanOf a) (leanOf b) (halvingOf a b .best) inside d .1 (best .some .1) in
               omega (arithℤ, v .low, v .high);
-          none = λ q t l d w. best .none t l d (wiring-exactly rows t d .0 w);
-          within = λ q. best .within;
-          below = λ q. inside;
+          none = λ q t l d w. best .none (ruleAt t) (rule-below (halvingOf a b .best) t l) d (wiring-exactly rows t d .0 w);
+          within = λ q. rw (rule-back (halvingOf a b .best)) (best .within);
+          below = λ q. rw (rule-back (halvingOf a b .best)) inside;
           fixed = λ q. count-fixed (length a) (leanOf a) (leanOf b) (rows .some);
           cheap = λ q. omega (arith, count-cheap (length a) (leanOf a) (leanOf b) (rows .some));
         })

@@ -7,6 +7,7 @@ use lib.ListN.{length}
 use lib.IntN.{ℤ}
 use Rattle.wiring.specs.Wiring.{pad}
 use Rattle.wiring.specs.Fit.{leanOf, Rising}
+use Rattle.wiring.specs.Tracks.{tracksFor}
 use Rattle.wiring.proofs.Rule.{lean-steady}
 use Rattle.jumper.specs.Rows.{AcceptedRows}
 use Rattle.jumper.specs.Span.{rangeOf}
@@ -76,12 +77,12 @@ module _ (a b x y hx hy : List ℤ) (l : List ℕ) (p : Plannable a b l) (room :
           kept = λ g. c .level .kept g ∙ rw (← c .level .best) ranges;
         }
 
-    pub planned : (r : OffsetRange) → r ≡ rangeOf (length a) (pad x'') (pad y'') (u .best) → IsPlanned a b l z (record { separation = u .best; range = r; count = u .count })
-    planned r e =
+    pub planned : (r : OffsetRange) (t : ℕ) → r ≡ rangeOf (length a) (pad x'') (pad y'') (u .best) → t ≡ tracksFor (u .best) → IsPlanned a b l z (record { separation = t; range = r; count = u .count })
+    planned r t e g =
         let s = same-halving in
         let h = halvable-lean a b (p .rows) in
         let d : u .best ≡ halving (length a) (leanOf a) (leanOf b) .best = c .level .best ∙ sym (ap (λ (t : Halving). t .best) s) in
         let n : u .count ≡ halving (length a) (leanOf a) (leanOf b) .count = c .level .count ∙ sym (ap (λ (t : Halving). t .count) s) in
         let q : rangeOf (length a) (leanOf a) (leanOf b) (u .best) ≡ rangeOf (length a) (pad x') (pad y') (u .best) = range-agrees (length a) (leanOf a) (leanOf b) (pad x') (pad y') (filled-agrees fx) top-filled (u .best) best-inside in
         let f : r ≡ rangeOf (length a) (leanOf a) (leanOf b) (halving (length a) (leanOf a) (leanOf b) .best) = e ∙ sym ranges ∙ sym q ∙ ap (rangeOf (length a) (leanOf a) (leanOf b)) d in
-        record { planned = rw (d, n, f); ladder = c .ladder ∙ rw (← s) }
+        record { planned = rw (g, d, n, f); ladder = c .ladder ∙ rw (← s) }

@@ -10,6 +10,7 @@ use lib.IntN.{ℤ}
 use lib.Signed.{_≤ℤ_}
 use Rattle.wiring.specs.Wiring.{HasWiring}
 use Rattle.wiring.specs.Fit.{leanOf}
+use Rattle.wiring.specs.Tracks.{ruleAt, tracksFor}
 use Rattle.jumper.specs.Refusals.{refusalNumbers}
 use Rattle.jumper.specs.Rows.{AcceptedRows, unlessRefused, checkRows}
 use Rattle.jumper.specs.Range.{Within, rangeNamed}
@@ -26,7 +27,7 @@ abbrev pub bestNumbers : Best → Numbers
 bestNumbers (Found p) = record { refusal = 0; place = 0; second = 0; separation = p .separation; lowest = p .range .low; highest = p .range .high; pair = 0; side = 0; count = p .count }
 bestNumbers (Refused r) = refusalNumbers r
 
--- the rule's halving of two rows, its ladder, and what it says of them
+-- the rule's halving of two rows, its ladder, and what it says of them: the separation that its best serves, and the range of the rule there
 abbrev pub halvingOf : (a b : List ℤ) → Halving
 halvingOf a b = halving (length a) (leanOf a) (leanOf b)
 
@@ -36,7 +37,7 @@ ladderOf a b = halvingOf a b .ladder
 abbrev pub plannedOf : (a b : List ℤ) → Planned
 plannedOf a b =
     record {
-      separation = halvingOf a b .best;
+      separation = tracksFor (halvingOf a b .best);
       range = rangeOf (length a) (leanOf a) (leanOf b) (halvingOf a b .best);
       count = halvingOf a b .count;
     }
@@ -70,8 +71,8 @@ pub record BestAnswer (a b : List ℤ) (before after : List ℕ) (r : Best) : Ty
   -- at any smaller separation no wiring of any shape is legal at any whole-number offset
   pub none : bestNumbers r .refusal ≡ 0 → (t : ℕ) → t < bestNumbers r .separation → (d : ℤ) → HasWiring a b t d → ⊥
   -- "the best separation is at most half the number of pairs" (003, lemma 2), so it is below their number
-  pub within : bestNumbers r .refusal ≡ 0 → 2 * bestNumbers r .separation ≤ length a
-  pub below : bestNumbers r .refusal ≡ 0 → bestNumbers r .separation < length a
+  pub within : bestNumbers r .refusal ≡ 0 → 2 * ruleAt (bestNumbers r .separation) ≤ length a
+  pub below : bestNumbers r .refusal ≡ 0 → ruleAt (bestNumbers r .separation) < length a
   -- "The count is therefore fixed by the ladder", and at most 12 are read for each pair
   pub fixed : bestNumbers r .refusal ≡ 0 → bestNumbers r .count ≡ ladderCount (ladderOf a b)
   pub cheap : bestNumbers r .refusal ≡ 0 → bestNumbers r .count ≤ maxReadAPair * length a

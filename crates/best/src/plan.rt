@@ -18,6 +18,7 @@ use jumper::refusal::Numbers;
 use jumper::refusal::Refusal;
 use jumper::rows::Checked;
 use jumper::rows::check_rows;
+use jumper::serves::tracks_for;
 
 pub struct Planned {
     pub separation: usize,
@@ -144,7 +145,7 @@ fn halve_in(
     let level = climb(x, y, hx, hy, n, ladder);
     let range = kept_or_read(x, y, n, level);
     Planned {
-        separation: level.best,
+        separation: tracks_for(level.best),
         range,
         count: level.count,
     }

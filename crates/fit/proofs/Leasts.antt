@@ -14,7 +14,9 @@ use Rattle.whole.proofs.Arith.{up, down, arithℤ}
 use Rattle.whole.proofs.Order.{true-lt, false-lt, lt-false}
 use Rattle.wiring.specs.Wiring.{HasWiring}
 use Rattle.wiring.specs.Fit.{leanOf, Steady, lowEnd, highEnd, Fits, TooRight, TooLeft}
+use Rattle.wiring.specs.Tracks.{ruleAt, tracksFor}
 use Rattle.wiring.proofs.Rule.{lean-steady, fits-above, ends-next, right-breaks, left-breaks}
+use Rattle.wiring.proofs.Serves.{rule-zero, rule-back, rule-below, rule-fewer, tracks-up}
 use Rattle.jumper.specs.Asked.{checkOffset, AcceptedShift, Asked}
 use Rattle.jumper.specs.declared.refusal.Side.{Side}
 use Rattle.jumper.specs.declared.refusal.Side.the-variants.{Right, Left}
@@ -27,7 +29,7 @@ use Rattle.fit.specs.Least.{breaksAt, leastOf, withWitness, LeastAnswer}
 use Rattle.fit.specs.declared.misfit.Misfit.the-variants.{None, At}
 use Rattle.fit.specs.declared.least.Least.the-variants.{Straight, Tracks, Refused as NoLeast}
 use Rattle.jumper.proofs.Wired.{wiring-exactly}
-use Rattle.fit.proofs.Misfits.{Free, not-here, none-fits, at-witness, witness-inside, witness-breaks, free-before}
+use Rattle.fit.proofs.Misfits.{Free, not-here, none-fits, at-broken, broken-inside, broken-breaks, at-witness, free-before}
 
 -- pair i, by the test
 breaks : (x y : ℕ → ℤ) (s : ℕ) (d : ℤ) (n i : ℕ) → i + s < n → breaksAt x y s d i ≡ true → TooRight n s x y d i ⊎ TooLeft n s x y d i
@@ -44,7 +46,7 @@ holds x y s d i e = go (tooRight x y s d i) refl e
     go true f g = let z : _≡_ {A = ℕ} 0 1 = cc in absurd (omega arith)
     go false f g = (false-lt d (lowEnd x y s i) g, false-lt (highEnd x y s i) d f)
 
--- s is the least separation of the first n pairs at d
+-- s is the least number at which the rule holds for the first n pairs at d
 pub record Leastly (n : ℕ) (x y : ℕ → ℤ) (d : ℤ) (s : ℕ) : Type 0 where
   pub within : s ≤ n
   pub fits : Fits n s x y d
@@ -90,7 +92,7 @@ unfolding leastOf
 leastly zero x y d sx sy = record { within = omega arith; fits = record { low = λ i h. absurd (omega arith); high = λ i h. absurd (omega arith) }; least = λ t h f. absurd (omega arith) }
 leastly (suc n) x y d sx sy = one-more n x y d (leastOf x y d n) sx sy (leastly n x y d (steady-fewer sx) (steady-fewer sy)) (breaksAt x y (leastOf x y d n) d (n - leastOf x y d n)) refl
 
--- there is one least separation
+-- there is one least number
 pub least-once : {n : ℕ} {x y : ℕ → ℤ} {d : ℤ} {s t : ℕ} → Leastly n x y d s → Leastly n x y d t → s ≡ t
 least-once {n} {x} {y} {d} {s} {t} l m = go (decLt s t) (decLt t s)
   where
@@ -108,8 +110,8 @@ module _ (a b : List ℤ) (d : ℤ) where
     l : Leastly (length a) (leanOf a) (leanOf b) d s
     l = leastly (length a) (leanOf a) (leanOf b) d (lean-steady (k .rows .bottom .rising)) (rw (k .rows .equal) (lean-steady (k .rows .top .rising)))
 
-    below : (t : ℕ) → t < s → HasWiring a b t d → ⊥
-    below t h w = l .least t h (wiring-exactly (k .rows) t d .0 w)
+    below : (t : ℕ) → t < tracksFor s → HasWiring a b t d → ⊥
+    below t h w = l .least (ruleAt t) (rule-below s t h) (wiring-exactly (k .rows) t d .0 w)
 
     pub straight : s ≡ 0 → LeastAnswer a b d Straight
     straight e =
@@ -117,24 +119,23 @@ module _ (a b : List ℤ) (d : ℤ) where
           answer = rw (shift-accepted a b d k, e);
           accepts = ((λ z. k), (λ z. refl));
           within = λ z. omega arith;
-          fits = λ z. rw (← e) (wiring-exactly (k .rows) s d .1 (l .fits));
+          fits = λ z. wiring-exactly (k .rows) 0 d .1 (rw (rule-zero, ← e) (l .fits));
           least = λ z t h. absurd (omega arith);
           witness = λ z h. absurd (omega arith);
         }
 
-    pub tracks : (i : ℕ) (side : Side) → 0 < s → misfitOf a b (s - 1) d ≡ At i side → LeastAnswer a b d (Tracks s i side)
+    pub tracks : (i : ℕ) (side : Side) → 0 < s → misfitOf a b (s - 1) d ≡ At i side → LeastAnswer a b d (Tracks (tracksFor s) i side)
     tracks i side h e =
-        let g : s ≡ suc (s - 1) = omega arith in
         record {
           answer = rw (shift-accepted a b d k, e) (shows s i side h);
           accepts = ((λ z. k), (λ z. refl));
-          within = λ z. l .within;
-          fits = λ z. wiring-exactly (k .rows) s d .1 (l .fits);
+          within = λ z. tracks-up s (length a) (l .within);
+          fits = λ z. wiring-exactly (k .rows) (tracksFor s) d .1 (rw (rule-back s) (l .fits));
           least = λ z t q. below t q;
-          witness = λ z q. at-witness a b (s - 1) d i side e;
+          witness = λ z q. at-witness a b (tracksFor s - 1) d i side (rw (rule-fewer s) e);
         }
       where
-        shows : (s i : ℕ) (side : Side) → 0 < s → Tracks s i side ≡ withWitness s (At i side)
+        shows : (s i : ℕ) (side : Side) → 0 < s → Tracks (tracksFor s) i side ≡ withWitness s (At i side)
         shows zero i side h = absurd (omega arith)
         shows (suc s) i side h = refl
 
@@ -149,7 +150,7 @@ module _ (a b : List ℤ) (d : ℤ) where
         witness = λ z. absurd (numbered r z);
       }
 
--- THE SEARCH: the pairs before i are free at s; and where s isn't 0, pair i is the witness at one track fewer, on the right or the left
+-- THE SEARCH: the pairs before i are free at s; and where s isn't 0, pair i is what breaks the rule just below s, on the right or the left
 abbrev pub sideOf : Bool → Side
 sideOf true = Right
 sideOf false = Left
@@ -184,8 +185,7 @@ module _ (a b : List ℤ) (d : ℤ) (k : AcceptedShift a b d) (s i : ℕ) (right
   pub seek-next : (j : ℕ) (side : Side) → misfitFrom (leanOf a) (leanOf b) s d i (length a - s - i) ≡ At j side → (s < length a) × Seeking a b d (s + 1) j (isRight side)
   seek-next j side e =
       let m : misfitOf a b s d ≡ At j side = c .here ∙ e in
-      let w = at-witness a b s d j side m in
-      let l = witness-inside w in
+      let l = broken-inside (at-broken a b s d j side m) in
       let q : s + 1 - 1 ≡ s = omega arith in (
         omega arith,
         record {
@@ -211,12 +211,12 @@ module _ (a b : List ℤ) (d : ℤ) (k : AcceptedShift a b d) (s i : ℕ) (right
       (record {
         within = c .below;
         fits = none-fits a b s d m;
-        least = λ t h f. witness-breaks (at-witness a b (s - 1) d i (sideOf right) (c .last (omega arith))) (fits-above sx sy (s - 1 - t) t (s - 1) (omega arith) f);
+        least = λ t h f. broken-breaks (at-broken a b (s - 1) d i (sideOf right) (c .last (omega arith))) (fits-above sx sy (s - 1 - t) t (s - 1) (omega arith) f);
       })
       (leastly (length a) (leanOf a) (leanOf b) d sx sy)
 
   pub seek-straight : misfitFrom (leanOf a) (leanOf b) s d i (length a - s - i) ≡ None → s ≡ 0 → LeastAnswer a b d Straight
   seek-straight e z = straight a b d k (sym (seek-done e) ∙ z)
 
-  pub seek-tracks : misfitFrom (leanOf a) (leanOf b) s d i (length a - s - i) ≡ None → 0 < s → LeastAnswer a b d (Tracks s i (sideOf right))
+  pub seek-tracks : misfitFrom (leanOf a) (leanOf b) s d i (length a - s - i) ≡ None → 0 < s → LeastAnswer a b d (Tracks (tracksFor s) i (sideOf right))
   seek-tracks e h = let f = seek-done e in rw f (tracks a b d k i (sideOf right) (rw f at h) (rw f at (c .last h)))

@@ -14,8 +14,8 @@ use Rattle.whole.proofs.Arith.{up, down, arithℤ}
 use Rattle.whole.proofs.Order.{true-lt, false-lt}
 use Rattle.wiring.specs.Wiring.{pad, HasWiring}
 use Rattle.wiring.specs.Fit.{leanOf, lowEnd, highEnd, Fits, TooRight, TooLeft}
+use Rattle.wiring.specs.Tracks.{ruleAt}
 use Rattle.wiring.proofs.Rule.{right-breaks, left-breaks}
-use Rattle.wiring.proofs.Theorem.{fit-exactly}
 use Rattle.jumper.specs.Rows.{AcceptedRows}
 use Rattle.jumper.specs.Asked.{checkAsked, Asked}
 use Rattle.jumper.specs.Refusals.{sideNumber}
@@ -83,32 +83,49 @@ none-fits a b s d e =
     let f = rw e at (found (leanOf a) (leanOf b) s d 0 (length a - s)) in
     record { low = λ i h. f i (omega arith) (omega arith) .low; high = λ i h. f i (omega arith) (omega arith) .high }
 
+-- what is found breaks the rule, and nothing before it does
+pub record Broken (a b : List ℤ) (s : ℕ) (d : ℤ) (i side : ℕ) : Type 0 where
+  pub breaks : ((side ≡ 1) × TooRight (length a) s (leanOf a) (leanOf b) d i) ⊎ ((side ≡ 2) × TooLeft (length a) s (leanOf a) (leanOf b) d i)
+  pub least : (j : ℕ) → j < i → (TooRight (length a) s (leanOf a) (leanOf b) d j → ⊥) × (TooLeft (length a) s (leanOf a) (leanOf b) d j → ⊥)
+
+broken-of : (a b : List ℤ) (s : ℕ) (d : ℤ) (i : ℕ) (k : Side) → Found (leanOf a) (leanOf b) s d 0 (length a - s) (At i k) → Broken a b s d i (sideNumber k)
+broken-of a b s d i Right f =
+    record {
+      breaks = inl (refl, record { inside = omega (arith, f .2); above = f .0 });
+      least = λ j h. let g = f .3 j (omega arith) h in ((λ r. omega (arithℤ, r .above, g .high)), (λ l. omega (arithℤ, l .under, g .low)));
+    }
+broken-of a b s d i Left f =
+    record {
+      breaks = inr (refl, record { inside = omega (arith, f .2); under = f .0 });
+      least = λ j h. let g = f .3 j (omega arith) h in ((λ r. omega (arithℤ, r .above, g .high)), (λ l. omega (arithℤ, l .under, g .low)));
+    }
+
+pub at-broken : (a b : List ℤ) (s : ℕ) (d : ℤ) (i : ℕ) (k : Side) → misfitOf a b s d ≡ At i k → Broken a b s d i (sideNumber k)
+at-broken a b s d i k e = broken-of a b s d i k (rw e at (found (leanOf a) (leanOf b) s d 0 (length a - s)))
+
+pub broken-breaks : {a b : List ℤ} {s : ℕ} {d : ℤ} {i k : ℕ} → Broken a b s d i k → Fits (length a) s (leanOf a) (leanOf b) d → ⊥
+broken-breaks w f = ⊎-elim (λ r. right-breaks (r .1) f) (λ l. left-breaks (l .1) f) (w .breaks)
+
+pub broken-inside : {a b : List ℤ} {s : ℕ} {d : ℤ} {i k : ℕ} → Broken a b s d i k → i + s < length a
+broken-inside w = ⊎-elim (λ r. r .1 .inside) (λ l. l .1 .inside) (w .breaks)
+
 -- THE TWO PADS prevent it, in any accepted rows: what breaks the rule at pair i are these two columns alone
 module _ (a b : List ℤ) (s : ℕ) (d : ℤ) (i : ℕ) where
-  pub right-pads : TooRight (length a) s (leanOf a) (leanOf b) d i → PadsPrevent a b s d (i + s) i
+  pub right-pads : TooRight (length a) (ruleAt s) (leanOf a) (leanOf b) d i → PadsPrevent a b s d (i + ruleAt s) i
   right-pads r a' b' k e f w = right-breaks {i = i} (record { inside = e .0; above = rw (e .1, f .1) (r .above) }) (wiring-exactly k s d .0 w)
 
-  pub left-pads : TooLeft (length a) s (leanOf a) (leanOf b) d i → PadsPrevent a b s d i (i + s)
+  pub left-pads : TooLeft (length a) (ruleAt s) (leanOf a) (leanOf b) d i → PadsPrevent a b s d i (i + ruleAt s)
   left-pads l a' b' k e f w = left-breaks {i = i} (record { inside = omega (arith, f .0, k .equal); under = rw (e .1, f .1) (l .under) }) (wiring-exactly k s d .0 w)
 
-witness-of : (a b : List ℤ) (s : ℕ) (d : ℤ) (i : ℕ) (k : Side) → Found (leanOf a) (leanOf b) s d 0 (length a - s) (At i k) → Witness a b s d i (sideNumber k)
-witness-of a b s d i Right f =
-    let r : TooRight (length a) s (leanOf a) (leanOf b) d i = record { inside = omega (arith, f .2); above = f .0 } in
+-- the witness at a separation is what is found where the rule serves it
+pub at-witness : (a b : List ℤ) (s : ℕ) (d : ℤ) (i : ℕ) (k : Side) → misfitOf a b (ruleAt s) d ≡ At i k → Witness a b s d i (sideNumber k)
+at-witness a b s d i k e =
+    let w = at-broken a b (ruleAt s) d i k e in
     record {
-      breaks = inl (refl, r);
-      least = λ j h. let g = f .3 j (omega arith) h in ((λ r. omega (arithℤ, r .above, g .high)), (λ l. omega (arithℤ, l .under, g .low)));
-      pads = inl (refl, right-pads a b s d i r);
+      breaks = w .breaks;
+      least = w .least;
+      pads = ⊎-elim (λ r. inl (r .0, right-pads a b s d i (r .1))) (λ l. inr (l .0, left-pads a b s d i (l .1))) (w .breaks);
     }
-witness-of a b s d i Left f =
-    let l : TooLeft (length a) s (leanOf a) (leanOf b) d i = record { inside = omega (arith, f .2); under = f .0 } in
-    record {
-      breaks = inr (refl, l);
-      least = λ j h. let g = f .3 j (omega arith) h in ((λ r. omega (arithℤ, r .above, g .high)), (λ l. omega (arithℤ, l .under, g .low)));
-      pads = inr (refl, left-pads a b s d i l);
-    }
-
-pub at-witness : (a b : List ℤ) (s : ℕ) (d : ℤ) (i : ℕ) (k : Side) → misfitOf a b s d ≡ At i k → Witness a b s d i (sideNumber k)
-at-witness a b s d i k e = witness-of a b s d i k (rw e at (found (leanOf a) (leanOf b) s d 0 (length a - s)))
 
 -- the pairs before it are free
 pub free-before : (a b : List ℤ) (s : ℕ) (d : ℤ) (i : ℕ) (k : Side) → misfitOf a b s d ≡ At i k → (j : ℕ) → j < i → Free (leanOf a) (leanOf b) s d j
@@ -118,23 +135,17 @@ free-before a b s d i k e j h = go k (rw e at (found (leanOf a) (leanOf b) s d 0
     go Right f = f .3 j (omega arith) h
     go Left f = f .3 j (omega arith) h
 
-pub witness-breaks : {a b : List ℤ} {s : ℕ} {d : ℤ} {i k : ℕ} → Witness a b s d i k → Fits (length a) s (leanOf a) (leanOf b) d → ⊥
-witness-breaks w f = ⊎-elim (λ r. right-breaks (r .1) f) (λ l. left-breaks (l .1) f) (w .breaks)
-
-pub witness-inside : {a b : List ℤ} {s : ℕ} {d : ℤ} {i k : ℕ} → Witness a b s d i k → i + s < length a
-witness-inside w = ⊎-elim (λ r. r .1 .inside) (λ l. l .1 .inside) (w .breaks)
-
 pub fits-none : (a b : List ℤ) (s : ℕ) (d : ℤ) → Fits (length a) s (leanOf a) (leanOf b) d → misfitOf a b s d ≡ None
 fits-none a b s d f = go (misfitOf a b s d) refl
   where
     go : (m : Misfit) → misfitOf a b s d ≡ m → m ≡ None
     go None e = refl
-    go (At i k) e = absurd (witness-breaks (at-witness a b s d i k e) f)
+    go (At i k) e = absurd (broken-breaks (at-broken a b s d i k e) f)
 
 -- WHAT `fit` PROMISES, from its answer
-by-misfit : (a b : List ℤ) (s : ℕ) (d : ℤ) → Asked a b s d → (m : Misfit) → misfitOf a b s d ≡ m → FitAnswer a b s d (noFit m)
+by-misfit : (a b : List ℤ) (s : ℕ) (d : ℤ) → Asked a b s d → (m : Misfit) → misfitOf a b (ruleAt s) d ≡ m → FitAnswer a b s d (noFit m)
 by-misfit a b s d k None e =
-    let w = wiring-exactly (k .rows) s d .1 (none-fits a b s d e) in
+    let w = wiring-exactly (k .rows) s d .1 (none-fits a b (ruleAt s) d e) in
     record {
       answer = sym (rw (asked-accepted a b s d k, e));
       fits = ((λ z. (k, w)), (λ z. refl));
@@ -142,13 +153,12 @@ by-misfit a b s d k None e =
       witness = λ z. absurd (omega arith);
     }
 by-misfit a b s d k (At i side) e =
-    let w = at-witness a b s d i side e in
-    let none : HasWiring a b s d → ⊥ = λ h. witness-breaks w (wiring-exactly (k .rows) s d .0 h) in
+    let none : HasWiring a b s d → ⊥ = λ h. broken-breaks (at-broken a b (ruleAt s) d i side e) (wiring-exactly (k .rows) s d .0 h) in
     record {
       answer = sym (rw (asked-accepted a b s d k, e));
       fits = ((λ z. absurd (omega arith)), (λ z. absurd (none (z .1))));
       prevents = ((λ z. (k, none)), (λ z. refl));
-      witness = λ z. w;
+      witness = λ z. at-witness a b s d i side e;
     }
 
 -- a refusal by the checks is none of NOFIT
@@ -163,5 +173,5 @@ fit-refused a b s d r e =
       witness = λ z. absurd (omega arith);
     }
 
-pub fit-found : (a b : List ℤ) (s : ℕ) (d : ℤ) (m : Misfit) → checkAsked a b s d ≡ Accepted → m ≡ misfitOf a b s d → FitAnswer a b s d (noFit m)
+pub fit-found : (a b : List ℤ) (s : ℕ) (d : ℤ) (m : Misfit) → checkAsked a b s d ≡ Accepted → m ≡ misfitOf a b (ruleAt s) d → FitAnswer a b s d (noFit m)
 fit-found a b s d m e f = by-misfit a b s d (accepted-asked a b s d e) m (sym f)

@@ -15,6 +15,7 @@ use Rattle.whole.proofs.Order.{false-lt, untrue}
 use Rattle.whole.proofs.Extremes.{largest-law, smallest-law, largest-further, smallest-further}
 use Rattle.wiring.specs.Wiring.{HasWiring}
 use Rattle.wiring.specs.Fit.{leanOf, lowEnd, highEnd, Fits}
+use Rattle.wiring.specs.Tracks.{ruleAt}
 use Rattle.wiring.proofs.Rule.{fits-past}
 use Rattle.jumper.specs.Asked.{checkTracks, AcceptedTracks}
 use Rattle.jumper.specs.Range.{wholeRange, isEmpty}
@@ -67,64 +68,68 @@ module _ (a b : List ℤ) (s : ℕ) where
     abbrev y : ℕ → ℤ
     y = leanOf b
 
-    wired : (d : ℤ) → HasWiring a b s d ↔ Fits n s x y d
+    -- the number at which the rule is read
+    abbrev t : ℕ
+    t = ruleAt s
+
+    wired : (d : ℤ) → HasWiring a b s d ↔ Fits n t x y d
     wired d = wiring-exactly (k .rows) s d
 
-    whole-answer : n ≤ s → OffsetsAnswer a b s (Range wholeRange)
+    whole-answer : n ≤ t → OffsetsAnswer a b s (Range wholeRange)
     whole-answer h =
         record {
-          answer = rw (tracks-accepted a b s k) (sym (past-all n x y s h));
+          answer = rw (tracks-accepted a b s k) (sym (past-all n x y t h));
           asked = ((λ z. k), (λ z. k));
           some = λ z. omega arithℤ;
           exactly = λ z q. absurd (omega arith);
-          every = λ z q. (refl, λ d. wired d .1 (fits-past n s x y d h));
+          every = λ z q. (refl, λ d. wired d .1 (fits-past n t x y d h));
           places = λ z. absurd (omega arith);
-          accepts = ((λ z. (k, (wholeRange .low, wired (wholeRange .low) .1 (fits-past n s x y (wholeRange .low) h)))), (λ z. refl));
-          none = ((λ z. absurd (omega arith)), (λ z. absurd (z .1 (wholeRange .low) (wired (wholeRange .low) .1 (fits-past n s x y (wholeRange .low) h)))));
+          accepts = ((λ z. (k, (wholeRange .low, wired (wholeRange .low) .1 (fits-past n t x y (wholeRange .low) h)))), (λ z. refl));
+          none = ((λ z. absurd (omega arith)), (λ z. absurd (z .1 (wholeRange .low) (wired (wholeRange .low) .1 (fits-past n t x y (wholeRange .low) h)))));
         }
 
-    first-low : s < n → FirstLow a b s (lowestAt n x y s)
-    first-low h = let l = largest-law (lowEnd x y s) (n - s - 1) in record { inside = omega (arith, l .within); highest = λ j g. l .bounds j (omega arith); first = l .first }
+    first-low : t < n → FirstLow a b t (lowestAt n x y t)
+    first-low h = let l = largest-law (lowEnd x y t) (n - t - 1) in record { inside = omega (arith, l .within); highest = λ j g. l .bounds j (omega arith); first = l .first }
 
-    first-high : s < n → FirstHigh a b s (highestAt n x y s)
-    first-high h = let l = smallest-law (highEnd x y s) (n - s - 1) in record { inside = omega (arith, l .within); lowest = λ j g. l .bounds j (omega arith); first = l .first }
+    first-high : t < n → FirstHigh a b t (highestAt n x y t)
+    first-high h = let l = smallest-law (highEnd x y t) (n - t - 1) in record { inside = omega (arith, l .within); lowest = λ j g. l .bounds j (omega arith); first = l .first }
 
-    none-answer : s < n → isEmpty (rangeOf n x y s) ≡ true → OffsetsAnswer a b s (NoRange (NoOffset (lowestAt n x y s) (highestAt n x y s)))
+    none-answer : t < n → isEmpty (rangeOf n x y t) ≡ true → OffsetsAnswer a b s (NoRange (NoOffset (lowestAt n x y t) (highestAt n x y t)))
     none-answer h e =
         record {
-          answer = rw (tracks-accepted a b s k) (sym (empty-range n x y s h e));
+          answer = rw (tracks-accepted a b s k) (sym (empty-range n x y t h e));
           asked = ((λ z. k), (λ z. k));
           some = λ z. absurd (omega arith);
           exactly = λ z. absurd (omega arith);
           every = λ z. absurd (omega arith);
-          none = ((λ z. (k, λ d w. none-fits n x y s h .0 e d (wired d .0 w))), (λ z. refl));
+          none = ((λ z. (k, λ d w. none-fits n x y t h .0 e d (wired d .0 w))), (λ z. refl));
           places = λ z. (first-low h, first-high h);
-          accepts = ((λ z. absurd (omega arith)), (λ z. absurd (none-fits n x y s h .0 e (z .1 .0) (wired (z .1 .0) .0 (z .1 .1)))));
+          accepts = ((λ z. absurd (omega arith)), (λ z. absurd (none-fits n x y t h .0 e (z .1 .0) (wired (z .1 .0) .0 (z .1 .1)))));
         }
 
-    some-answer : s < n → isEmpty (rangeOf n x y s) ≡ false → OffsetsAnswer a b s (Range (rangeOf n x y s))
+    some-answer : t < n → isEmpty (rangeOf n x y t) ≡ false → OffsetsAnswer a b s (Range (rangeOf n x y t))
     some-answer h e =
         record {
-          answer = rw (tracks-accepted a b s k) (sym (some-range n x y s h e));
+          answer = rw (tracks-accepted a b s k) (sym (some-range n x y t h e));
           asked = ((λ z. k), (λ z. k));
-          some = λ z. false-lt (rangeOf n x y s .high) (rangeOf n x y s .low) e;
-          exactly = λ z q d. ((λ w. range-exactly n x y s h d .1 (wired d .0 w)), (λ w. wired d .1 (range-exactly n x y s h d .0 w)));
+          some = λ z. false-lt (rangeOf n x y t .high) (rangeOf n x y t .low) e;
+          exactly = λ z q d. ((λ w. range-exactly n x y t h d .1 (wired d .0 w)), (λ w. wired d .1 (range-exactly n x y t h d .0 w)));
           every = λ z q. absurd (omega arith);
           places = λ z. absurd (omega arith);
-          accepts = ((λ z. (k, (rangeOf n x y s .low, wired (rangeOf n x y s .low) .1 (range-exactly n x y s h (rangeOf n x y s .low) .0 (record { low = omega arithℤ; high = false-lt (rangeOf n x y s .high) (rangeOf n x y s .low) e }))))), (λ z. refl));
-          none = ((λ z. absurd (omega arith)), (λ z. untrue (sym e ∙ none-fits n x y s h .1 (λ d f. z .1 d (wired d .1 f)))));
+          accepts = ((λ z. (k, (rangeOf n x y t .low, wired (rangeOf n x y t .low) .1 (range-exactly n x y t h (rangeOf n x y t .low) .0 (record { low = omega arithℤ; high = false-lt (rangeOf n x y t .high) (rangeOf n x y t .low) e }))))), (λ z. refl));
+          none = ((λ z. absurd (omega arith)), (λ z. untrue (sym e ∙ none-fits n x y t h .1 (λ d f. z .1 d (wired d .1 f)))));
         }
 
-    pub range-answer : OffsetsAnswer a b s (rangeFound n x y s)
-    range-answer = go (decLt s n)
+    pub range-answer : OffsetsAnswer a b s (rangeFound n x y t)
+    range-answer = go (decLt t n)
       where
-        tested : s < n → (t : Bool) → isEmpty (rangeOf n x y s) ≡ t → OffsetsAnswer a b s (rangeFound n x y s)
-        tested h true e = rw (empty-range n x y s h e) (none-answer h e)
-        tested h false e = rw (some-range n x y s h e) (some-answer h e)
+        tested : t < n → (v : Bool) → isEmpty (rangeOf n x y t) ≡ v → OffsetsAnswer a b s (rangeFound n x y t)
+        tested h true e = rw (empty-range n x y t h e) (none-answer h e)
+        tested h false e = rw (some-range n x y t h e) (some-answer h e)
 
-        go : Dec (s < n) → OffsetsAnswer a b s (rangeFound n x y s)
-        go (yes h) = tested h (isEmpty (rangeOf n x y s)) refl
-        go (no h) = let g : n ≤ s = omega arith in rw (past-all n x y s g) (whole-answer g)
+        go : Dec (t < n) → OffsetsAnswer a b s (rangeFound n x y t)
+        go (yes h) = tested h (isEmpty (rangeOf n x y t)) refl
+        go (no h) = let g : n ≤ t = omega arith in rw (past-all n x y t g) (whole-answer g)
 
 -- the range is read from the gaps, s further on, and its ends are set by the same pairs
 module _ (a b : List ℤ) (s : ℕ) where

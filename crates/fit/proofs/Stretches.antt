@@ -7,6 +7,7 @@ use lib.Dec.{eqb}
 use lib.ListN.{take, drop}
 use lib.IntN.{ℤ}
 use lib.Signed.{leZ}
+use Rattle.wiring.specs.Tracks.{ruleAt}
 use Rattle.jumper.specs.Asked.{checkAsked}
 use Rattle.jumper.specs.declared.rows.Checked.{Checked}
 use Rattle.jumper.specs.declared.rows.Checked.the-variants.{Accepted, Refused}
@@ -26,4 +27,4 @@ by-cases Accepted (At i k) a b s = go (leZ (span a i s) (span b i s))
     go false = refl
 
 pub named : (a b : List ℤ) (s : ℕ) (d : ℤ) (r : Place) → r ≡ placeOf a b s d → StretchPlace a b s d r
-named a b s d r e = record { answer = e; names = rw e (by-cases (checkAsked a b s d) (misfitOf a b s d) a b s) }
+named a b s d r e = record { answer = e; names = rw e (by-cases (checkAsked a b s d) (misfitOf a b (ruleAt s) d) a b (ruleAt s)) }

@@ -9,6 +9,7 @@ use lib.IntN.{ℤ}
 use lib.Signed.{ltZ}
 use Rattle.wiring.specs.Wiring.{pad, HasWiring}
 use Rattle.wiring.specs.Fit.{leanOf, lowEnd, highEnd, TooRight, TooLeft}
+use Rattle.wiring.specs.Tracks.{ruleAt}
 use Rattle.jumper.specs.Rows.{AcceptedRows, checkedNumbers, orElse}
 use Rattle.jumper.specs.Asked.{checkAsked, Asked}
 use Rattle.jumper.specs.declared.refusal.Side.{Side}
@@ -44,19 +45,19 @@ noFit None = Accepted
 noFit (At i k) = Refused (NoFit i k)
 
 abbrev pub fitOf : (a b : List ℤ) (s : ℕ) (d : ℤ) → Checked
-fitOf a b s d = orElse (checkAsked a b s d) (noFit (misfitOf a b s d))
+fitOf a b s d = orElse (checkAsked a b s d) (noFit (misfitOf a b (ruleAt s) d))
 
 -- Bottom pad i and top pad j of rows a and b prevent a wiring at (s, d): accepted rows that have these two pads at the same
 -- columns have no legal wiring there, however many other pads they have and wherever those stand
 abbrev pub PadsPrevent : (a b : List ℤ) (s : ℕ) (d : ℤ) (i j : ℕ) → Type 0
 PadsPrevent a b s d i j = (a' b' : List ℤ) → AcceptedRows a' b' → (i < length a') × (pad a' i ≡ pad a i) → (j < length b') × (pad b' j ≡ pad b j) → HasWiring a' b' s d → ⊥
 
--- the witness, by 01's numbers: pair i breaks the rule on its side (1 RIGHT, 2 LEFT), and no pair before it breaks it
+-- the witness, by 01's numbers: pair i breaks the rule that serves s on its side (1 RIGHT, 2 LEFT), and no pair before it breaks it
 pub record Witness (a b : List ℤ) (s : ℕ) (d : ℤ) (i side : ℕ) : Type 0 where
-  pub breaks : ((side ≡ 1) × TooRight (length a) s (leanOf a) (leanOf b) d i) ⊎ ((side ≡ 2) × TooLeft (length a) s (leanOf a) (leanOf b) d i)
-  pub least : (j : ℕ) → j < i → (TooRight (length a) s (leanOf a) (leanOf b) d j → ⊥) × (TooLeft (length a) s (leanOf a) (leanOf b) d j → ⊥)
+  pub breaks : ((side ≡ 1) × TooRight (length a) (ruleAt s) (leanOf a) (leanOf b) d i) ⊎ ((side ≡ 2) × TooLeft (length a) (ruleAt s) (leanOf a) (leanOf b) d i)
+  pub least : (j : ℕ) → j < i → (TooRight (length a) (ruleAt s) (leanOf a) (leanOf b) d j → ⊥) × (TooLeft (length a) (ruleAt s) (leanOf a) (leanOf b) d j → ⊥)
   -- "top pad i is too far right for bottom pad i+s", and its mirror: these are the two pads that prevent a wiring
-  pub pads : ((side ≡ 1) × PadsPrevent a b s d (i + s) i) ⊎ ((side ≡ 2) × PadsPrevent a b s d i (i + s))
+  pub pads : ((side ≡ 1) × PadsPrevent a b s d (i + ruleAt s) i) ⊎ ((side ≡ 2) × PadsPrevent a b s d i (i + ruleAt s))
 
 -- What `fit` promises. Demand 2: it says "fits" exactly when all is accepted and a legal wiring exists, and NOFIT exactly when all
 -- is accepted and none does; then it names the pads that prevent it.

@@ -11,6 +11,7 @@ use lib.Signed.{_<ℤ_, _≤ℤ_}
 use Rattle.whole.specs.Pick.{largest, smallest}
 use Rattle.wiring.specs.Wiring.{pad, HasWiring}
 use Rattle.wiring.specs.Fit.{leanOf, lowEnd, highEnd}
+use Rattle.wiring.specs.Tracks.{ruleAt}
 use Rattle.jumper.specs.Refusals.{refusalNumbers}
 use Rattle.jumper.specs.Rows.{unlessRefused}
 use Rattle.jumper.specs.Asked.{checkTracks, AcceptedTracks}
@@ -44,9 +45,9 @@ rangeFound n x y s =
     (Range wholeRange)
 
 abbrev pub offsetsAnswer : (a b : List ℤ) (s : ℕ) → Offsets
-offsetsAnswer a b s = unlessRefused (checkTracks a b s) NoRange (rangeFound (length a) (leanOf a) (leanOf b) s)
+offsetsAnswer a b s = unlessRefused (checkTracks a b s) NoRange (rangeFound (length a) (leanOf a) (leanOf b) (ruleAt s))
 
--- pair i is the first that sets the low end, and the first that sets the high end
+-- pair i is the first that sets the low end of the rule at s, and the first that sets its high end
 pub record FirstLow (a b : List ℤ) (s i : ℕ) : Type 0 where
   pub inside : i + s < length a
   pub highest : (j : ℕ) → j + s < length a → lowEnd (leanOf a) (leanOf b) s j ≤ℤ lowEnd (leanOf a) (leanOf b) s i
@@ -57,14 +58,14 @@ pub record FirstHigh (a b : List ℤ) (s i : ℕ) : Type 0 where
   pub lowest : (j : ℕ) → j + s < length a → highEnd (leanOf a) (leanOf b) s i ≤ℤ highEnd (leanOf a) (leanOf b) s j
   pub first : (j : ℕ) → j < i → highEnd (leanOf a) (leanOf b) s i <ℤ highEnd (leanOf a) (leanOf b) s j
 
--- What `range_at` promises. For s < n the range holds exactly the offsets at which a legal wiring exists, and some; for s >= n every
+-- What `range_at` promises. Where the rule that serves s is below n the range holds exactly the offsets at which a legal wiring exists, and some; else every
 -- whole-number offset has one. NOOFFSET, exactly when no whole-number offset has one, names the first pair that sets each end.
 pub record OffsetsAnswer (a b : List ℤ) (s : ℕ) (r : Offsets) : Type 0 where
   pub answer : r ≡ offsetsAnswer a b s
   pub asked : ((offsetsNumbers r .refusal ≡ 0) → AcceptedTracks a b s) × ((offsetsNumbers r .refusal ≡ 11) → AcceptedTracks a b s)
   pub some : offsetsNumbers r .refusal ≡ 0 → offsetsNumbers r .lowest ≤ℤ offsetsNumbers r .highest
-  pub exactly : offsetsNumbers r .refusal ≡ 0 → s < length a → (d : ℤ) → HasWiring a b s d ↔ Within d (rangeNamed (offsetsNumbers r))
-  pub every : offsetsNumbers r .refusal ≡ 0 → length a ≤ s → (rangeNamed (offsetsNumbers r) ≡ wholeRange) × ((d : ℤ) → HasWiring a b s d)
+  pub exactly : offsetsNumbers r .refusal ≡ 0 → ruleAt s < length a → (d : ℤ) → HasWiring a b s d ↔ Within d (rangeNamed (offsetsNumbers r))
+  pub every : offsetsNumbers r .refusal ≡ 0 → length a ≤ ruleAt s → (rangeNamed (offsetsNumbers r) ≡ wholeRange) × ((d : ℤ) → HasWiring a b s d)
   pub none : (offsetsNumbers r .refusal ≡ 11) ↔ (AcceptedTracks a b s × ((d : ℤ) → HasWiring a b s d → ⊥))
-  pub places : offsetsNumbers r .refusal ≡ 11 → FirstLow a b s (offsetsNumbers r .place) × FirstHigh a b s (offsetsNumbers r .second)
+  pub places : offsetsNumbers r .refusal ≡ 11 → FirstLow a b (ruleAt s) (offsetsNumbers r .place) × FirstHigh a b (ruleAt s) (offsetsNumbers r .second)
   pub accepts : (offsetsNumbers r .refusal ≡ 0) ↔ (AcceptedTracks a b s × ((d : ℤ) × HasWiring a b s d))

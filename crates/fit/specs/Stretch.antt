@@ -9,6 +9,7 @@ use lib.ListN.{take, drop}
 use lib.IntN.{ℤ, _-ℤ_}
 use lib.Signed.{leZ}
 use Rattle.wiring.specs.Wiring.{pad}
+use Rattle.wiring.specs.Tracks.{ruleAt}
 use Rattle.jumper.specs.declared.rows.Checked.{Checked}
 use Rattle.jumper.specs.declared.rows.Checked.the-variants.{Accepted, Refused}
 use Rattle.jumper.specs.Asked.{checkAsked}
@@ -31,7 +32,7 @@ stretchAfter Accepted None a b s = []
 stretchAfter Accepted (At i k) a b s = narrower a b i s
 
 abbrev pub stretchOf : (a b : List ℤ) (s : ℕ) (d : ℤ) → List ℤ
-stretchOf a b s d = stretchAfter (checkAsked a b s d) (misfitOf a b s d) a b s
+stretchOf a b s d = stretchAfter (checkAsked a b s d) (misfitOf a b (ruleAt s) d) a b (ruleAt s)
 
 -- the same told by place, for callers that can't be handed a part of a row: which row (0 bottom, 1 top), from which pad, how many pads
 abbrev pub placeAfter : Checked → Misfit → (a b : List ℤ) (s : ℕ) → Place
@@ -40,7 +41,7 @@ placeAfter Accepted None a b s = record { row = 0; start = 0; pads = 0 }
 placeAfter Accepted (At i k) a b s = record { row = cond (leZ (span a i s) (span b i s)) 0 1; start = i; pads = s + 1 }
 
 abbrev pub placeOf : (a b : List ℤ) (s : ℕ) (d : ℤ) → Place
-placeOf a b s d = placeAfter (checkAsked a b s d) (misfitOf a b s d) a b s
+placeOf a b s d = placeAfter (checkAsked a b s d) (misfitOf a b (ruleAt s) d) a b (ruleAt s)
 
 -- the part that a place names
 abbrev pub partAt : (a b : List ℤ) → Place → List ℤ

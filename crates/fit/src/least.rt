@@ -11,6 +11,7 @@ use jumper::refusal::Refusal;
 use jumper::refusal::Side;
 use jumper::refusal::carrying;
 use jumper::rows::Checked;
+use jumper::serves::tracks_for;
 
 pub enum Least {
     // Separation 0: every top pad stands straight above its bottom pad.
@@ -52,8 +53,8 @@ pub fn least_at(a: &[i32], b: &[i32], d: i32) -> Least
     }
 }
 
-// One pass over the pairs (003, theorem 3): at each misfit one track more. The pairs before it stay free, and the last misfit is the witness at
-// one track fewer.
+// One pass over the pairs (003, theorem 3): at each misfit the rule is read one further on. The pairs before it stay free, and the last misfit is the
+// witness at one track fewer.
 fn seek_least(a: &[i32], b: &[i32], d: i32) -> Least
     requires { ⌜ AcceptedShift (now a) (now b) d ⌝ }
     ensures { λ r. ⌜ LeastAnswer (now (a .entry)) (now (b .entry)) d r ⌝ }
@@ -68,9 +69,9 @@ fn seek_least(a: &[i32], b: &[i32], d: i32) -> Least
                     return Least::Straight;
                 }
                 if right {
-                    return Least::Tracks(s, i, Side::Right);
+                    return Least::Tracks(tracks_for(s), i, Side::Right);
                 }
-                return Least::Tracks(s, i, Side::Left);
+                return Least::Tracks(tracks_for(s), i, Side::Left);
             }
             Misfit::At(j, side) => {
                 s += 1;

@@ -10,6 +10,7 @@ use jumper::asked::check_asked;
 use jumper::refusal::Refusal;
 use jumper::refusal::Side;
 use jumper::rows::Checked;
+use jumper::serves::rule_at;
 
 // The least pair that breaks the rule of fit, and on which side.
 pub enum Misfit {
@@ -59,7 +60,7 @@ pub(crate) fn misfit_from(a: &[i32], b: &[i32], s: usize, d: i32, from: usize) -
     Misfit::None
 }
 
-// The least misfit: none where the offset is in the range at s, which is quick to read; else it is sought.
+// The least misfit of the rule at s: none where the offset is in the range there, which is quick to read; else it is sought.
 pub(crate) fn first_misfit(a: &[i32], b: &[i32], s: usize, d: i32) -> Misfit
     requires { ⌜ Asked (now a) (now b) s d ⌝ }
     ensures { λ r. ⌜ r ≡ misfitOf (now (a .entry)) (now (b .entry)) s d ⌝ }
@@ -84,7 +85,7 @@ pub fn fit(a: &[i32], b: &[i32], s: usize, d: i32) -> Checked
 {
     match check_asked(a, b, s, d) {
         Checked::Refused(r) => Checked::Refused(r),
-        Checked::Accepted => match first_misfit(a, b, s, d) {
+        Checked::Accepted => match first_misfit(a, b, rule_at(s), d) {
             Misfit::None => Checked::Accepted,
             Misfit::At(i, side) => Checked::Refused(Refusal::NoFit(i, side)),
         },

@@ -11,6 +11,7 @@ use jumper::range::OffsetRange;
 use jumper::refusal::Numbers;
 use jumper::refusal::Refusal;
 use jumper::rows::Checked;
+use jumper::serves::rule_at;
 use whole::larger;
 use whole::smaller;
 
@@ -46,7 +47,7 @@ pub fn range_at(a: &[i32], b: &[i32], s: usize) -> Offsets
 {
     match check_tracks(a, b, s) {
         Checked::Refused(r) => Offsets::Refused(r),
-        Checked::Accepted => range_found(a, b, s),
+        Checked::Accepted => range_found(a, b, rule_at(s)),
     }
 }
 

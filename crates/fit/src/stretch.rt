@@ -10,6 +10,7 @@ use crate::misfit::Misfit;
 use crate::misfit::first_misfit;
 use jumper::asked::check_asked;
 use jumper::rows::Checked;
+use jumper::serves::rule_at;
 
 // How many columns pads i to i + s of a row span.
 fn span_of(a: &[i32], i: usize, s: usize) -> i32
@@ -24,10 +25,13 @@ pub fn stretch<'a>(a: &'a [i32], b: &'a [i32], s: usize, d: i32) -> &'a [i32]
 {
     match check_asked(a, b, s, d) {
         Checked::Refused(_) => &a[..0],
-        Checked::Accepted => match first_misfit(a, b, s, d) {
-            Misfit::None => &a[..0],
-            Misfit::At(i, _) => narrower_of(a, b, i, s),
-        },
+        Checked::Accepted => {
+            let r = rule_at(s);
+            match first_misfit(a, b, r, d) {
+                Misfit::None => &a[..0],
+                Misfit::At(i, _) => narrower_of(a, b, i, r),
+            }
+        }
     }
 }
 
@@ -61,14 +65,17 @@ pub fn stretch_place(a: &[i32], b: &[i32], s: usize, d: i32) -> Place
             start: 0,
             pads: 0,
         },
-        Checked::Accepted => match first_misfit(a, b, s, d) {
-            Misfit::None => Place {
-                row: 0,
-                start: 0,
-                pads: 0,
-            },
-            Misfit::At(i, _) => narrower_place(a, b, i, s),
-        },
+        Checked::Accepted => {
+            let r = rule_at(s);
+            match first_misfit(a, b, r, d) {
+                Misfit::None => Place {
+                    row: 0,
+                    start: 0,
+                    pads: 0,
+                },
+                Misfit::At(i, _) => narrower_place(a, b, i, r),
+            }
+        }
     }
 }
 

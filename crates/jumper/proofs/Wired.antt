@@ -1,7 +1,7 @@
 -- Offsets at which accepted rows have a legal wiring.
 use mathlib.Core.List.{List}
 use mathlib.Core.Logic.{_↔_}
-use Prim.Native.Nat.{ℕ, _+_, _<_}
+use Prim.Native.Nat.{ℕ, _+_, _≤_, _<_}
 use native.Mathlib.Omega.{arith}
 use lib.ListN.{length}
 use lib.IntN.{ℤ, pos}
@@ -9,14 +9,29 @@ use lib.Signed.{_≤ℤ_}
 use Rattle.whole.proofs.Arith.{up, down, arithℤ, dif, sum}
 use Rattle.wiring.specs.Wiring.{HasWiring, pad}
 use Rattle.wiring.specs.Fit.{leanOf, Fits}
+use Rattle.wiring.specs.Tracks.{ruleAt, tracksFor}
 use Rattle.wiring.proofs.Rule.{spread}
+use Rattle.wiring.proofs.Serves.{rule-most}
 use Rattle.wiring.proofs.Theorem.{fit-exactly}
-use Rattle.jumper.specs.Limits.{lastColumn, AcceptedOffset}
+use Rattle.jumper.specs.Limits.{maxPairs, maxTracks, lastColumn, AcceptedOffset}
 use Rattle.jumper.specs.Rows.{AcceptedRow, AcceptedRows}
+use Rattle.jumper.specs.Asked.{AcceptedTracks, Asked}
 
 -- the theorem of fit, of accepted rows
-pub wiring-exactly : {a b : List ℤ} → AcceptedRows a b → (s : ℕ) (d : ℤ) → HasWiring a b s d ↔ Fits (length a) s (leanOf a) (leanOf b) d
+pub wiring-exactly : {a b : List ℤ} → AcceptedRows a b → (s : ℕ) (d : ℤ) → HasWiring a b s d ↔ Fits (length a) (ruleAt s) (leanOf a) (leanOf b) d
 wiring-exactly {a} {b} r s d = fit-exactly (length a) s (pad a) (pad b) d (r .bottom .rising) (rw (r .equal) (r .top .rising))
+
+-- what is asked at a separation is accepted where the rule is read
+pub tracks-rule : {a b : List ℤ} {s : ℕ} → AcceptedTracks a b s → AcceptedTracks a b (ruleAt s)
+tracks-rule {s = s} k = record { rows = k .rows; tracks = omega (arith, k .tracks, rule-most s) }
+
+pub asked-rule : {a b : List ℤ} {s : ℕ} {d : ℤ} → Asked a b s d → Asked a b (ruleAt s) d
+asked-rule {s = s} k = record { rows = k .rows; tracks = omega (arith, k .tracks, rule-most s); offset = k .offset }
+
+-- the separation that serves any accepted number of pairs is accepted
+pub tracks-most : (n : ℕ) → n ≤ maxPairs → tracksFor n ≤ maxTracks
+unfolding tracksFor
+tracks-most n h = h
 
 -- an accepted row leans from 0 to the last column
 lean-low : {a : List ℤ} → AcceptedRow a → (k : ℕ) → k < length a → pos 0 ≤ℤ leanOf a k
@@ -25,14 +40,14 @@ lean-low {a} h k l = omega (arithℤ, dif (pad a k) (pos k), sum (pad a 0) (pos 
 lean-high : {a : List ℤ} → AcceptedRow a → (k : ℕ) → k < length a → leanOf a k ≤ℤ lastColumn
 lean-high {a} h k l = omega (arithℤ, dif (pad a k) (pos k), h .columns k l .high)
 
--- below the number of pairs, every whole-number offset at which a legal wiring exists is an accepted one
-pub wired-accepted : {a b : List ℤ} → AcceptedRows a b → (s : ℕ) (d : ℤ) → s < length a → HasWiring a b s d → AcceptedOffset d
+-- where the rule is read below the number of pairs, every whole-number offset at which a legal wiring exists is an accepted one
+pub wired-accepted : {a b : List ℤ} → AcceptedRows a b → (s : ℕ) (d : ℤ) → ruleAt s < length a → HasWiring a b s d → AcceptedOffset d
 wired-accepted {a} {b} h s d l w =
     let f = wiring-exactly h s d .0 w in
     let x = leanOf a in
     let y = leanOf b in
     let e = h .equal in
     record {
-      low = omega (arithℤ, f .low 0 (omega arith), dif (x 0) (y (0 + s)), lean-low (h .bottom) 0 (omega arith), lean-high (h .top) (0 + s) (omega arith));
-      high = omega (arithℤ, f .high 0 (omega arith), dif (x (0 + s)) (y 0), lean-high (h .bottom) (0 + s) (omega arith), lean-low (h .top) 0 (omega arith));
+      low = omega (arithℤ, f .low 0 (omega arith), dif (x 0) (y (0 + ruleAt s)), lean-low (h .bottom) 0 (omega arith), lean-high (h .top) (0 + ruleAt s) (omega arith));
+      high = omega (arithℤ, f .high 0 (omega arith), dif (x (0 + ruleAt s)) (y 0), lean-high (h .bottom) (0 + ruleAt s) (omega arith), lean-low (h .top) 0 (omega arith));
     }

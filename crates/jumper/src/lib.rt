@@ -4,3 +4,4 @@ pub mod limits;
 pub mod range;
 pub mod refusal;
 pub mod rows;
+pub mod serves;

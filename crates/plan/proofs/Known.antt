@@ -11,6 +11,7 @@ use lib.IntN.{ℤ}
 use lib.Signed.{ltZ, leZ}
 use Rattle.whole.proofs.Order.{untrue}
 use Rattle.wiring.specs.Fit.{leanOf}
+use Rattle.wiring.specs.Tracks.{ruleAt}
 use Rattle.jumper.specs.Limits.{maxPairs, maxTracks, firstColumn, lastColumn, lowestOffset, highestOffset}
 use Rattle.jumper.specs.Refusals.{refusalNumbers}
 use Rattle.jumper.specs.Rows.{checkedNumbers, pick, unlessRefused, orElse, faultAfter, rowFault, checkRows}
@@ -82,7 +83,7 @@ module _ (a b : List ℤ) where
   told-misfit (At i k) = record { few = omega arith; equal = λ e z. omega arith }
 
   pub known-fit : (s : ℕ) (d : ℤ) → Known a b (checkedNumbers (fitOf a b s d) .refusal)
-  known-fit s d = told-or (checkAsked a b s d) (noFit (misfitOf a b s d)) (told-or (checkTracks a b s) (offsetFault d) (told-tracks s) (told-offset d)) (told-misfit (misfitOf a b s d))
+  known-fit s d = told-or (checkAsked a b s d) (noFit (misfitOf a b (ruleAt s) d)) (told-or (checkTracks a b s) (offsetFault d) (told-tracks s) (told-offset d)) (told-misfit (misfitOf a b (ruleAt s) d))
 
   -- the number of what comes after a check
   known-unless : {X : Type 0} (number : X → ℕ) (refused : Refusal → X) → ((r : Refusal) → number (refused r) ≡ refusalNumbers r .refusal)
@@ -109,8 +110,9 @@ module _ (a b : List ℤ) where
       let n = length a in
       let x = leanOf a in
       let y = leanOf b in
-      known-unless (λ q. offsetsNumbers q .refusal) NoRange (λ r. refl) (checkTracks a b s) (rangeFound n x y s) (told-tracks s)
-      (known-pick (ltb s n) _ _ (known-pick (ltZ (rangeOf n x y s .high) (rangeOf n x y s .low)) _ _ (record { few = omega arith; equal = λ e z. omega arith }) fine) fine)
+      let t = ruleAt s in
+      known-unless (λ q. offsetsNumbers q .refusal) NoRange (λ r. refl) (checkTracks a b s) (rangeFound n x y t) (told-tracks s)
+      (known-pick (ltb t n) _ _ (known-pick (ltZ (rangeOf n x y t .high) (rangeOf n x y t .low)) _ _ (record { few = omega arith; equal = λ e z. omega arith }) fine) fine)
 
   known-room : (t : Bool) (p : Planned) → Known a b (bestNumbers (roomOr t p) .refusal)
   known-room true p = record { few = omega arith; equal = λ e z. omega arith }

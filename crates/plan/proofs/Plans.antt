@@ -13,6 +13,8 @@ use lib.Signed.{ltZ}
 use Rattle.whole.proofs.Arith.{up, down, arithℤ}
 use Rattle.wiring.specs.Wiring.{HasWiring}
 use Rattle.wiring.specs.Fit.{leanOf, half}
+use Rattle.wiring.specs.Tracks.{ruleAt, tracksFor}
+use Rattle.wiring.proofs.Serves.{rule-under, tracks-some}
 use Rattle.jumper.specs.Limits.{maxLadder, AcceptedOffset}
 use Rattle.jumper.specs.Refusals.{sideNumber, refusalNumbers}
 use Rattle.jumper.specs.Rows.{AcceptedRows, checkedNumbers, unlessRefused, orElse, checkRows}
@@ -27,7 +29,7 @@ use Rattle.jumper.specs.declared.range.OffsetRange.{OffsetRange}
 use Rattle.jumper.specs.declared.rows.Checked.{Checked}
 use Rattle.jumper.specs.declared.rows.Checked.the-variants.{Accepted, Refused}
 use Rattle.jumper.proofs.Accepted.{numbered}
-use Rattle.jumper.proofs.Wired.{wired-accepted}
+use Rattle.jumper.proofs.Wired.{wired-accepted, tracks-most}
 use Rattle.jumper.proofs.Checks.{Early, tracks-accepted, early-rows, early-tracks, early-shift, early-asked}
 use Rattle.fit.specs.Misfit.{misfitOf, noFit, fitOf, FitAnswer}
 use Rattle.fit.specs.Least.{leastNumbers, leastOf, withWitness, leastAnswer, LeastAnswer}
@@ -76,7 +78,7 @@ least-some a b d t i side e z =
     go (Refused q) s m e = let f : _≡_ {A = ℕ} 0 1 = cc in omega arith
     go Accepted zero m e = let f : _≡_ {A = ℕ} 0 1 = cc in omega arith
     go Accepted (suc s) None e = let f : _≡_ {A = ℕ} 0 1 = cc in omega arith
-    go Accepted (suc s) (At j k) e = let f : t ≡ suc s = cc in omega arith
+    go Accepted (suc s) (At j k) e = let f : t ≡ tracksFor (suc s) = cc in omega (arith, tracks-some (suc s) (omega arith))
 
 -- and so there is a best one: its refusals are those of the rows, and BUFFER
 best-early : (a b : List ℤ) (before : List ℕ) (r : Refusal) → NoBest r ≡ bestAnswer a b before → refusalNumbers r .refusal ≤ 9
@@ -89,7 +91,7 @@ best-early a b before r e = go (checkRows a b) (early-rows a b) (ltb (length bef
 
 -- a separation and an offset are refused with at most 10; a separation alone never with 10
 fit-early : (a b : List ℤ) (s : ℕ) (d : ℤ) (r : Refusal) → Refused r ≡ fitOf a b s d → refusalNumbers r .refusal ≤ 10
-fit-early a b s d r e = go (checkAsked a b s d) (early-asked a b s d) (misfitOf a b s d) (ap (λ (c : Checked). checkedNumbers c .refusal) e)
+fit-early a b s d r e = go (checkAsked a b s d) (early-asked a b s d) (misfitOf a b (ruleAt s) d) (ap (λ (c : Checked). checkedNumbers c .refusal) e)
   where
     go : (c : Checked) → Early 7 c → (m : Misfit) → refusalNumbers r .refusal ≡ checkedNumbers (orElse c (noFit m)) .refusal → refusalNumbers r .refusal ≤ 10
     go (Refused q) l m e = omega arith
@@ -97,13 +99,13 @@ fit-early a b s d r e = go (checkAsked a b s d) (early-asked a b s d) (misfitOf 
     go Accepted l (At i k) e = omega arith
 
 range-early : (a b : List ℤ) (s : ℕ) (r : Refusal) → NoRange r ≡ offsetsAnswer a b s → refusalNumbers r .refusal ≡ 10 → ⊥
-range-early a b s r e z = go (checkTracks a b s) (early-tracks a b s) (ltb s (length a)) (isEmpty o) (ap (λ (q : Offsets). offsetsNumbers q .refusal) e)
+range-early a b s r e z = go (checkTracks a b s) (early-tracks a b s) (ltb (ruleAt s) (length a)) (isEmpty o) (ap (λ (q : Offsets). offsetsNumbers q .refusal) e)
   where
     o : OffsetRange
-    o = rangeOf (length a) (leanOf a) (leanOf b) s
+    o = rangeOf (length a) (leanOf a) (leanOf b) (ruleAt s)
 
     places : Refusal
-    places = NoOffset (lowestAt (length a) (leanOf a) (leanOf b) s) (highestAt (length a) (leanOf a) (leanOf b) s)
+    places = NoOffset (lowestAt (length a) (leanOf a) (leanOf b) (ruleAt s)) (highestAt (length a) (leanOf a) (leanOf b) (ruleAt s))
 
     go : (c : Checked) → Early 6 c → (t u : Bool)
         → refusalNumbers r .refusal ≡ offsetsNumbers (unlessRefused c NoRange (cond t (cond u (NoRange places) (Offered o)) (Offered wholeRange))) .refusal → ⊥
@@ -114,18 +116,18 @@ range-early a b s r e z = go (checkTracks a b s) (early-tracks a b s) (ltb s (le
 
 -- refused although the separation is accepted: no offset fits
 range-never : (a b : List ℤ) (s : ℕ) (r : Refusal) → NoRange r ≡ offsetsAnswer a b s → AcceptedTracks a b s → refusalNumbers r .refusal ≡ 11
-range-never a b s r e t = go (decLt s (length a))
+range-never a b s r e t = go (decLt (ruleAt s) (length a))
   where
-    number : (q : Offsets) → rangeFound (length a) (leanOf a) (leanOf b) s ≡ q → refusalNumbers r .refusal ≡ offsetsNumbers q .refusal
+    number : (q : Offsets) → rangeFound (length a) (leanOf a) (leanOf b) (ruleAt s) ≡ q → refusalNumbers r .refusal ≡ offsetsNumbers q .refusal
     number q f = ap (λ (o : Offsets). offsetsNumbers o .refusal) (rw (tracks-accepted a b s t) at e ∙ f)
 
-    tested : s < length a → (u : Bool) → ltZ (rangeOf (length a) (leanOf a) (leanOf b) s .high) (rangeOf (length a) (leanOf a) (leanOf b) s .low) ≡ u → refusalNumbers r .refusal ≡ 11
-    tested l true f = number _ (empty-range (length a) (leanOf a) (leanOf b) s l f)
-    tested l false f = absurd (numbered r (number _ (some-range (length a) (leanOf a) (leanOf b) s l f)))
+    tested : ruleAt s < length a → (u : Bool) → ltZ (rangeOf (length a) (leanOf a) (leanOf b) (ruleAt s) .high) (rangeOf (length a) (leanOf a) (leanOf b) (ruleAt s) .low) ≡ u → refusalNumbers r .refusal ≡ 11
+    tested l true f = number _ (empty-range (length a) (leanOf a) (leanOf b) (ruleAt s) l f)
+    tested l false f = absurd (numbered r (number _ (some-range (length a) (leanOf a) (leanOf b) (ruleAt s) l f)))
 
-    go : Dec (s < length a) → refusalNumbers r .refusal ≡ 11
-    go (yes l) = tested l (ltZ (rangeOf (length a) (leanOf a) (leanOf b) s .high) (rangeOf (length a) (leanOf a) (leanOf b) s .low)) refl
-    go (no l) = absurd (numbered r (number _ (past-all (length a) (leanOf a) (leanOf b) s (omega arith))))
+    go : Dec (ruleAt s < length a) → refusalNumbers r .refusal ≡ 11
+    go (yes l) = tested l (ltZ (rangeOf (length a) (leanOf a) (leanOf b) (ruleAt s) .high) (rangeOf (length a) (leanOf a) (leanOf b) (ruleAt s) .low)) refl
+    go (no l) = absurd (numbered r (number _ (past-all (length a) (leanOf a) (leanOf b) (ruleAt s) (omega arith))))
 
 -- twice as many pairs have one level more, so 2,048 pairs have 12
 abbrev doubled : ℕ → ℕ
@@ -204,7 +206,7 @@ module _ (a b : List ℤ) where
         names = tt;
         numbered = λ z. absurd (z refl);
         rows = λ z. g .rows;
-        drawable = λ z. (record { rows = g .rows; tracks = omega (arith, within, g .rows .few); offset = g .offset }, fits);
+        drawable = λ z. (record { rows = g .rows; tracks = omega (arith, within, tracks-most (length a) (g .rows .few)); offset = g .offset }, fits);
         known = omega arith;
         equal = λ e z. omega arith;
       }
@@ -233,7 +235,7 @@ module _ (a b : List ℤ) where
         names = λ z. absurd (omega arith);
         numbered = λ z. absurd (z refl);
         rows = λ z. k .rows;
-        drawable = λ z. (record { rows = k .rows; tracks = k .tracks; offset = accepted (decLt s (length a)) }, fits);
+        drawable = λ z. (record { rows = k .rows; tracks = k .tracks; offset = accepted (decLt (ruleAt s) (length a)) }, fits);
         known = omega arith;
         equal = λ e z. omega arith;
       }
@@ -241,14 +243,14 @@ module _ (a b : List ℤ) where
       k : AcceptedTracks a b s
       k = h .asked .0 refl
 
-      wired : Dec (s < length a) → HasWiring a b s (r .low)
+      wired : Dec (ruleAt s < length a) → HasWiring a b s (r .low)
       wired (yes l) = h .exactly refl l (r .low) .1 (record { low = omega arithℤ; high = h .some refl })
       wired (no l) = h .every refl (omega arith) .1 (r .low)
 
       fits : HasWiring a b s (r .low)
-      fits = wired (decLt s (length a))
+      fits = wired (decLt (ruleAt s) (length a))
 
-      accepted : Dec (s < length a) → AcceptedOffset (r .low)
+      accepted : Dec (ruleAt s < length a) → AcceptedOffset (r .low)
       accepted (yes l) = wired-accepted (k .rows) s (r .low) l fits
       accepted (no l) = let e = h .every refl (omega arith) .0 in rw (ap (λ (o : OffsetRange). o .low) e) (record { low = omega arithℤ; high = omega arithℤ })
 
@@ -270,7 +272,7 @@ module _ (a b : List ℤ) where
         names = tt;
         numbered = λ z. absurd (z refl);
         rows = λ z. k;
-        drawable = λ z. (record { rows = k; tracks = omega (arith, h .below refl, k .few); offset = wired-accepted k (p .separation) (p .range .low) (h .below refl) w }, w);
+        drawable = λ z. (record { rows = k; tracks = omega (arith, rule-under (length a) (p .separation) (h .below refl), tracks-most (length a) (k .few)); offset = wired-accepted k (p .separation) (p .range .low) (h .below refl) w }, w);
         known = omega arith;
         equal = λ e z. omega arith;
       }

@@ -7,6 +7,7 @@ use lib.ListN.{length, replicate}
 use lib.IntN.{ℤ}
 use lib.Signed.{_≤ℤ_}
 use Rattle.wiring.specs.Wiring.{HasWiring}
+use Rattle.wiring.specs.Tracks.{ruleAt, tracksFor}
 use Rattle.jumper.specs.Limits.{maxLadder}
 use Rattle.jumper.specs.Refusals.{sideNumber, refusalNumbers}
 use Rattle.jumper.specs.Rows.{AcceptedRows}
@@ -78,7 +79,7 @@ pub record FitMeans (s : ℕ) (d : ℤ) (a b : List ℤ) (r : Numbers) : Type 0 
 
 pub record LeastMeans (d : ℤ) (a b : List ℤ) (r : Numbers) : Type 0 where
   pub named : r ≡ plannedWith (r .separation) d d (r .pair) (r .side) 0
-  pub within : r .separation ≤ length a
+  pub within : r .separation ≤ tracksFor (length a)
   pub fits : HasWiring a b (r .separation) d
   pub least : (t : ℕ) → t < r .separation → HasWiring a b t d → ⊥
   pub witness : 0 < r .separation → Witness a b (r .separation - 1) d (r .pair) (r .side)
@@ -87,15 +88,15 @@ pub record LeastMeans (d : ℤ) (a b : List ℤ) (r : Numbers) : Type 0 where
 pub record RangeMeans (s : ℕ) (a b : List ℤ) (r : Numbers) : Type 0 where
   pub named : r ≡ plannedWith s (r .lowest) (r .highest) 0 0 0
   pub some : r .lowest ≤ℤ r .highest
-  pub exactly : s < length a → (d : ℤ) → HasWiring a b s d ↔ Within d (rangeNamed r)
-  pub every : length a ≤ s → (rangeNamed r ≡ wholeRange) × ((d : ℤ) → HasWiring a b s d)
+  pub exactly : ruleAt s < length a → (d : ℤ) → HasWiring a b s d ↔ Within d (rangeNamed r)
+  pub every : length a ≤ ruleAt s → (rangeNamed r ≡ wholeRange) × ((d : ℤ) → HasWiring a b s d)
 
 pub record BestMeans (a b : List ℤ) (r : Numbers) : Type 0 where
   pub named : r ≡ plannedWith (r .separation) (r .lowest) (r .highest) 0 0 (r .count)
   pub some : r .lowest ≤ℤ r .highest
   pub exactly : (d : ℤ) → HasWiring a b (r .separation) d ↔ Within d (rangeNamed r)
   pub none : (t : ℕ) → t < r .separation → (d : ℤ) → HasWiring a b t d → ⊥
-  pub within : 2 * r .separation ≤ length a
+  pub within : 2 * ruleAt (r .separation) ≤ length a
   pub fixed : r .count ≡ ladderCount (ladderOf a b)
   pub cheap : r .count ≤ maxReadAPair * length a
 
@@ -123,7 +124,7 @@ Offsetless Best a b = ⊥
 abbrev pub Names : Wish → (a b : List ℤ) → Numbers → Type 0
 Names (Fit s d) a b r = r .refusal ≡ 10 → Witness a b s d (r .pair) (r .side)
 Names (Leastwise d) a b r = Unit {0}
-Names (Range s) a b r = r .refusal ≡ 11 → FirstLow a b s (r .place) × FirstHigh a b s (r .second)
+Names (Range s) a b r = r .refusal ≡ 11 → FirstLow a b (ruleAt s) (r .place) × FirstHigh a b (ruleAt s) (r .second)
 Names Best a b r = Unit {0}
 
 -- What `plan` promises, for any wish and rows.

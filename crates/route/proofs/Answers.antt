@@ -12,6 +12,7 @@ use lib.Seq.{take-at}
 use lib.IntN.{ℤ}
 use Rattle.wiring.specs.Wiring.{at, Legal, pad, topPad, HasWiring}
 use Rattle.wiring.specs.Fit.{Rising}
+use Rattle.wiring.specs.Tracks.{ruleAt}
 use Rattle.wiring.specs.Table.{upFrom, wireOf, LegalTable}
 use Rattle.wiring.proofs.Theorem.{shifted-rising, drawing-legal}
 use Rattle.jumper.specs.Refusals.{refusalNumbers}
@@ -133,7 +134,7 @@ module _ (a b : List ℤ) (s : ℕ) (d : ℤ) (r : Checked) (f : FitAnswer a b s
   refused-by (Refused q) m e g u = (q, g, e)
 
   pub unasked : isUnasked r ≡ true → (q : Refusal) × (r ≡ Refused q) × (checkAsked a b s d ≡ Refused q)
-  unasked = refused-by (checkAsked a b s d) (misfitOf a b s d) refl (f .answer)
+  unasked = refused-by (checkAsked a b s d) (misfitOf a b (ruleAt s) d) refl (f .answer)
 
   accepted-by : (v : Checked) (m : Misfit) → checkAsked a b s d ≡ v → r ≡ orElse v (noFit m) → isUnasked r ≡ false → checkAsked a b s d ≡ Accepted
   accepted-by Accepted m e g u = e
@@ -142,7 +143,7 @@ module _ (a b : List ℤ) (s : ℕ) (d : ℤ) (r : Checked) (f : FitAnswer a b s
       absurd (true≢false (sym (lt-ltb (refusalNumbers q .refusal) 8 (omega arith)) ∙ (rw g at u)))
 
   pub asked : isUnasked r ≡ false → checkAsked a b s d ≡ Accepted
-  asked = accepted-by (checkAsked a b s d) (misfitOf a b s d) refl (f .answer)
+  asked = accepted-by (checkAsked a b s d) (misfitOf a b (ruleAt s) d) refl (f .answer)
 
 -- ONE WIRE
 module _ (a b : List ℤ) (s : ℕ) (d : ℤ) (wire : ℕ) (out : List ℤ) where

@@ -8,6 +8,7 @@ use lib.Dec.{ltb}
 use lib.ListN.{length, drop}
 use lib.IntN.{ℤ}
 use Rattle.wiring.specs.Wiring.{Point, Legal, pad, topPad, HasWiring}
+use Rattle.wiring.specs.Tracks.{ruleAt}
 use Rattle.wiring.specs.Table.{wireOf}
 use Rattle.wiring.specs.Drawing.{drawn}
 use Rattle.jumper.specs.Refusals.{refusalNumbers}
@@ -43,10 +44,10 @@ noWire n wire = pick (ltb wire n) Accepted (Refused Wire)
 
 -- the refusals in 01's order, for a buffer of `room` places
 abbrev pub wireRefusal : (a b : List ℤ) (s : ℕ) (d : ℤ) (wire room : ℕ) → Checked
-wireRefusal a b s d wire room = orElse (checkAsked a b s d) (orElse (noWire (length a) wire) (orElse (noRoom (s + 1) room) (noFit (misfitOf a b s d))))
+wireRefusal a b s d wire room = orElse (checkAsked a b s d) (orElse (noWire (length a) wire) (orElse (noRoom (s + 1) room) (noFit (misfitOf a b (ruleAt s) d))))
 
 abbrev pub allRefusal : (a b : List ℤ) (s : ℕ) (d : ℤ) (room : ℕ) → Checked
-allRefusal a b s d room = orElse (checkAsked a b s d) (orElse (noRoom (length a * (s + 1)) room) (noFit (misfitOf a b s d)))
+allRefusal a b s d room = orElse (checkAsked a b s d) (orElse (noRoom (length a * (s + 1)) room) (noFit (misfitOf a b (ruleAt s) d)))
 
 -- an answer of `fit` that refuses what is asked, 1 to 7, and not the fit
 abbrev pub isUnasked : Checked → Bool

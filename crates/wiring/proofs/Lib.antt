@@ -1,9 +1,10 @@
--- What the floors above cite: Theorem, Rule, Mirror, Halving, Build and Drawing. The others are the way there.
+-- What the floors above cite: Theorem, Serves, Rule, Mirror, Halving, Build and Drawing. The others are the way there.
 mod Walk
 mod Pigeon
 mod Diagonal
 pub mod Build
 pub mod Rule
+pub mod Serves
 pub mod Drawing
 pub mod Theorem
 pub mod Mirror

@@ -1,16 +1,18 @@
--- THE THEOREM OF FIT: a legal wiring, of any shape, exists at (s, d) exactly when the rule of fit holds. And what follows from it at once.
+-- THE THEOREM OF FIT: a legal wiring, of any shape, exists at (s, d) exactly when the rule of fit holds at the number that serves s. And what follows from it at once.
 use mathlib.Core.Path.{_≡_, ap}
 use mathlib.Core.List.{List}
 use mathlib.Core.Logic.{_↔_}
-use Prim.Native.Nat.{ℕ, suc, _+_, _≤_, _<_}
+use Prim.Native.Nat.{ℕ, suc, _+_, _-_, _≤_, _<_}
 use native.Mathlib.Omega.{arith}
 use lib.IntN.{ℤ, pos, _+ℤ_}
 use Rattle.whole.proofs.Arith.{up, down, arithℤ, sum, dif}
 use Rattle.wiring.specs.Wiring.{Point, Legal, Wirable}
 use Rattle.wiring.specs.Fit.{lean, Rising, Fits}
+use Rattle.wiring.specs.Tracks.{ruleAt}
 use Rattle.wiring.specs.Table.{LegalTable}
 use Rattle.wiring.specs.Drawing.{drawn}
-use Rattle.wiring.proofs.Rule.{rising-steady, lean-steady, fits-next, fits-past}
+use Rattle.wiring.proofs.Rule.{rising-steady, lean-steady, fits-above, fits-past}
+use Rattle.wiring.proofs.Serves.{rule-zero, rule-up}
 use Rattle.wiring.proofs.Diagonal.{left, right}
 use Rattle.wiring.proofs.Build.{ordered-legal}
 use Rattle.wiring.proofs.Drawing.{Clear, drawn-ordered}
@@ -42,10 +44,12 @@ module _ (n s : ℕ) (a b : ℕ → ℤ) (d : ℤ) where
     legal-clear l i h = (left l (rising-steady ra) (rising-steady (shifted-rising d rb)) i h, right l (rising-steady ra) (rising-steady (shifted-rising d rb)) i h)
 
     -- 01's drawing is legal exactly when the rule holds
-    pub drawing-legal : LegalTable n s a (shifted b d) (drawn n a (shifted b d)) ↔ Fits n s (lean a) (lean b) d
+    pub drawing-legal : LegalTable n s a (shifted b d) (drawn n a (shifted b d)) ↔ Fits n (ruleAt s) (lean a) (lean b) d
+    unfolding ruleAt
     drawing-legal = ((λ l. clear-fits (legal-clear l)), (λ f. ordered-legal (drawn-ordered n a (shifted b d) ra (shifted-rising d rb) s (fits-clear f))))
 
-    pub fit-exactly : Wirable n s a (shifted b d) ↔ Fits n s (lean a) (lean b) d
+    pub fit-exactly : Wirable n s a (shifted b d) ↔ Fits n (ruleAt s) (lean a) (lean b) d
+    unfolding ruleAt
     fit-exactly = ((λ w. clear-fits (legal-clear (w .1))), (λ f. (_, drawing-legal .1 f)))
 
 -- "At s = 0 this forces a_i = b_i + d for every i."
@@ -63,14 +67,16 @@ straight n a b d = (
 -- the same of wirings: there is one at s = 0 exactly when every top pad stands straight above its bottom pad
 pub straight-wiring : (n : ℕ) (a b : ℕ → ℤ) (d : ℤ) → Rising n a → Rising n b → Wirable n 0 a (shifted b d) ↔ ((i : ℕ) → i < n → a i ≡ b i +ℤ d)
 straight-wiring n a b d ra rb =
-    let f = fit-exactly n 0 a b d ra rb in
+    let f = rw rule-zero at (fit-exactly n 0 a b d ra rb) in
     let g = straight n a b d in
     ((λ w. g .0 (f .0 w)), (λ e. f .1 (g .1 e)))
 
 -- a fit at s is a fit at s + 1: one track more never hurts
 pub wirable-next : (n s : ℕ) (a b : ℕ → ℤ) (d : ℤ) → Rising n a → Rising n b → Wirable n s a (shifted b d) → Wirable n (suc s) a (shifted b d)
-wirable-next n s a b d ra rb w = fit-exactly n (suc s) a b d ra rb .1 (fits-next (lean-steady ra) (lean-steady rb) (fit-exactly n s a b d ra rb .0 w))
+wirable-next n s a b d ra rb w =
+    fit-exactly n (suc s) a b d ra rb .1
+    (fits-above (lean-steady ra) (lean-steady rb) (ruleAt (suc s) - ruleAt s) (ruleAt s) (ruleAt (suc s)) (omega (arith, rule-up s (suc s) (omega arith))) (fit-exactly n s a b d ra rb .0 w))
 
 -- "For s >= n .. every offset fits": a wiring exists
-pub wide-enough : (n s : ℕ) (a b : ℕ → ℤ) (d : ℤ) → Rising n a → Rising n b → n ≤ s → Wirable n s a (shifted b d)
-wide-enough n s a b d ra rb h = fit-exactly n s a b d ra rb .1 (fits-past n s (lean a) (lean b) d h)
+pub wide-enough : (n s : ℕ) (a b : ℕ → ℤ) (d : ℤ) → Rising n a → Rising n b → n ≤ ruleAt s → Wirable n s a (shifted b d)
+wide-enough n s a b d ra rb h = fit-exactly n s a b d ra rb .1 (fits-past n (ruleAt s) (lean a) (lean b) d h)

@@ -1,5 +1,5 @@
 -- The rule of fit (01, "Rules of fit"; 003, theorems 1 and 3), on the numbers x and y alone: it knows nothing of tracks or wires.
--- Which wirings it speaks for is proved in proofs/Theorem.antt.
+-- Which separation it serves is said in Tracks.antt, and which wirings it speaks for is proved in proofs/Theorem.antt.
 --
 -- Worked: J = rows 0,1,4,5 and 1,2,3,4 has x = 0,0,2,2 and y = 1,1,1,1. At s = 2 the rule says -1 <= d <= 1; at s = 1 it says 1 <= d <= -1.
 use mathlib.Core.List.{List}

@@ -8,6 +8,7 @@ use lib.Dec.{T, eqb, eqb→eq}
 use lib.ListN.{length, getD}
 use lib.IntN.{ℤ, pos, negsuc}
 use Rattle.whole.specs.Pick.{largerOf, smallerOf, firstBy}
+use Rattle.wiring.specs.Tracks.{ruleAt, tracksFor}
 use Rattle.wiring.specs.Drawing.{rightward, leftward, entry}
 use Rattle.jumper.specs.Rows.{faultAfter}
 use Rattle.fit.specs.Misfit.{misfitFrom}
@@ -62,7 +63,7 @@ all-equal (c ∷ cs) t zero h = alike-equal (c .told) (c .hand) (both-left (alik
 all-equal (c ∷ cs) t (suc k) h = all-equal cs (both-right (alike (c .told) (c .hand)) (allAlike cs) t) k (le-of-suc-le-suc h)
 
 computed : allAlike table ≡ true
-unfolding firstBy faultAfter misfitFrom leastOf fromEven fromHalf halvingIn largerOf smallerOf rightward leftward entry columns wires
+unfolding ruleAt tracksFor firstBy faultAfter misfitFrom leastOf fromEven fromHalf halvingIn largerOf smallerOf rightward leftward entry columns wires
 computed = refl
 
 pub worked : (k : ℕ) → k < length table → caseAt k .told ≡ caseAt k .hand

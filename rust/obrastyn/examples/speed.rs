@@ -76,6 +76,9 @@ fn route(n: usize, s: usize) {
     assert_eq!(obrastyn::draw_all(x, y, s, 0, &mut ours).refusal, 0);
     row(&format!("draw all, {n} pairs by {s} tracks"), race(|| obrastyn::draw_all(black_box(x), black_box(y), s, 0, &mut ours), || baseline::draw_all(black_box(x), black_box(y), s, 0, &mut plain)));
     assert_eq!(ours, plain);
+    let (mut one, mut other) = (vec![0i32; s + 1], vec![0i32; s + 1]);
+    row(&format!("draw a wire, {n} pairs by {s} tracks"), race(|| obrastyn::draw_wire(black_box(x), black_box(y), s, 0, n / 2, &mut one), || baseline::draw_wire(black_box(x), black_box(y), s, 0, n / 2, &mut other)));
+    assert_eq!(one, other);
     row(&format!("check, {n} pairs by {s} tracks"), race(|| obrastyn::check(black_box(x), black_box(y), s, 0, &ours), || baseline::check(black_box(x), black_box(y), s, 0, &plain)));
 }
 

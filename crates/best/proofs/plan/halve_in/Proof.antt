@@ -28,6 +28,9 @@ kept-or-read-requires c κs =
     keeps-plan (a .a .now) (a .b .now) (a .x .now) (a .y .now) (a .hx .now) (a .hy .now) (a .ladder .now) (s .pre .0) (s .pre .1) _ _ (k .lower .ensures) (j .lower2 .ensures)
     _ _ _ (i .climb .result) (i .climb .ensures) (i .climb .kept .0 ∙ k .lower .kept .1 .0) (i .climb .kept .1 .0 ∙ j .lower2 .kept .1 .0)
 
+tracks-for-requires : tie.Need-tracks-for-requires
+tracks-for-requires c κs = search needs
+
 same-length : tie.Need-same-length
 same-length c = search needs
 
@@ -45,13 +48,14 @@ same-length-5 c = search needs
 
 returns : tie.Need-returns
 returns c =
-    let i = c .before .before .before .before .before .before .before .before .before in
+    let r = c .before in
+    let i = r .before .before .before .before .before .before .before .before .before in
     let j = i .before .before .before .before .before .before .before in
     let k = j .before .before .before in
     let s = k .before .before .before in
     let a = s .args in
     planned (a .a .now) (a .b .now) (a .x .now) (a .y .now) (a .hx .now) (a .hy .now) (a .ladder .now) (s .pre .0) (s .pre .1) _ _ (k .lower .ensures) (j .lower2 .ensures)
-    _ _ _ (i .climb .result) (i .climb .ensures) (c .kept-or-read .result) (c .kept-or-read .ensures)
+    _ _ _ (i .climb .result) (i .climb .ensures) (r .kept-or-read .result) _ (r .kept-or-read .ensures) (c .tracks-for .ensures)
 
 pub halve-in-spec : {M : Type 1} → statement M
 halve-in-spec =
@@ -61,6 +65,7 @@ halve-in-spec =
     lower-requires-2
     climb-requires
     kept-or-read-requires
+    tracks-for-requires
     same-length
     same-length-2
     same-length-3

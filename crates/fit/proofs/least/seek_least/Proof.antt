@@ -39,21 +39,33 @@ returns c =
     let v = rw e at (k .loop .inv) in
     seek-straight _ _ _ (s .pre) _ _ _ v (sym (rw e at (c .before .before .before .misfit-from .ensures)) ∙ c .before .enum-told .given .1) (c .if1 .taken)
 
+tracks-for-requires : tie.Need-tracks-for-requires Inv-loop μ-loop
+tracks-for-requires c κs = search needs
+
 returns-2 : tie.Need-returns-2 Inv-loop μ-loop
 returns-2 c =
-    let k = c .before .before .before .before .before in
+    let f = c .before .before .before in
+    let m = f .before .before in
+    let k = m .before in
     let s = k .before in
     let e = toZ-ofZ w32 (s .args .d) (s .fits .d) in
     let v = rw e at (k .loop .inv) in
-    rw (c .if2 .taken) at (seek-tracks (s .args .a .now) (s .args .b .now) (s .args .d) (s .pre) _ _ _ v (sym (rw e at (c .before .before .before .before .misfit-from .ensures)) ∙ c .before .before .enum-told .given .1) (pos-of-ne-zero (c .before .if1 .left)))
+    let found = sym (rw e at (m .misfit-from .ensures)) ∙ f .enum-told .given .1 in
+    rw (c .before .if2 .taken, ← (c .tracks-for .ensures)) at (seek-tracks (s .args .a .now) (s .args .b .now) (s .args .d) (s .pre) _ _ _ v found (pos-of-ne-zero (c .before .before .if1 .left)))
+
+tracks-for-requires-2 : tie.Need-tracks-for-requires-2 Inv-loop μ-loop
+tracks-for-requires-2 c κs = search needs
 
 returns-3 : tie.Need-returns-3 Inv-loop μ-loop
 returns-3 c =
-    let k = c .before .before .before .before .before in
+    let f = c .before .before .before in
+    let m = f .before .before in
+    let k = m .before in
     let s = k .before in
     let e = toZ-ofZ w32 (s .args .d) (s .fits .d) in
     let v = rw e at (k .loop .inv) in
-    rw (c .if2 .left) at (seek-tracks (s .args .a .now) (s .args .b .now) (s .args .d) (s .pre) _ _ _ v (sym (rw e at (c .before .before .before .before .misfit-from .ensures)) ∙ c .before .before .enum-told .given .1) (pos-of-ne-zero (c .before .if1 .left)))
+    let found = sym (rw e at (m .misfit-from .ensures)) ∙ f .enum-told .given .1 in
+    rw (c .before .if2 .left, ← (c .tracks-for2 .ensures)) at (seek-tracks (s .args .a .now) (s .args .b .now) (s .args .d) (s .pre) _ _ _ v found (pos-of-ne-zero (c .before .before .if1 .left)))
 
 enum-known-j : tie.Need-enum-known-j Inv-loop μ-loop
 enum-known-j c = search needs
@@ -98,7 +110,9 @@ seek-least-spec =
     misfit-from-requires
     enum-told
     returns
+    tracks-for-requires
     returns-2
+    tracks-for-requires-2
     returns-3
     enum-known-j
     add-s

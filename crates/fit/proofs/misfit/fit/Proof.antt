@@ -2,6 +2,7 @@ use mathlib.Core.Path.{sym, _∙_}
 use mir.Syntax.{w32}
 use mir.ValLaws.{toZ-ofZ}
 use Rattle.jumper.proofs.Checks.{accepted-asked}
+use Rattle.jumper.proofs.Wired.{asked-rule}
 use Rattle.fit.proofs.Misfits.{fit-refused, fit-found}
 use borrow.Author.Needs.{needs}
 use Rattle.fit.proofs.misfit.fit.Statement.{statement}
@@ -16,8 +17,13 @@ enum-known-r c = search needs
 enum-told : tie.Need-enum-told
 enum-told c = search needs
 
+rule-at-requires : tie.Need-rule-at-requires
+rule-at-requires c κs = search needs
+
 first-misfit-requires : tie.Need-first-misfit-requires
-first-misfit-requires c κs = accepted-asked _ _ _ _ (sym (c .before .before .check-asked .ensures .answer) ∙ c .enum-told .given .1)
+first-misfit-requires c κs =
+    let t = c .before in
+    rw (c .rule-at .ensures) (asked-rule (accepted-asked _ _ _ _ (sym (t .before .before .check-asked .ensures .answer) ∙ t .enum-told .given .1)))
 
 enum-told-2 : tie.Need-enum-told-2
 enum-told-2 c = search needs
@@ -33,15 +39,19 @@ returns c =
 
 returns-2 : tie.Need-returns-2
 returns-2 c =
-    let s = c .before .before .before .before .before .before in
-    let e = toZ-ofZ w32 (s .args .d) (s .fits .d) in
-    fit-found _ _ _ _ _ (sym (rw e at (c .before .before .before .before .before .check-asked .ensures .answer)) ∙ c .before .before .before .enum-told .given .1) (sym (c .enum-told2 .given .1) ∙ rw e at (c .before .before .first-misfit .ensures))
+    let m = c .before .before in
+    let t = m .before .before in
+    let k = t .before .before in
+    let e = toZ-ofZ w32 (k .before .args .d) (k .before .fits .d) in
+    fit-found _ _ _ _ _ (sym (rw e at (k .check-asked .ensures .answer)) ∙ t .enum-told .given .1) (sym (c .enum-told2 .given .1) ∙ rw (e, m .before .rule-at .ensures) at (m .first-misfit .ensures))
 
 returns-3 : tie.Need-returns-3
 returns-3 c =
-    let s = c .before .before .before .before .before .before .before in
-    let e = toZ-ofZ w32 (s .args .d) (s .fits .d) in
-    fit-found _ _ _ _ _ (sym (rw e at (c .before .before .before .before .before .before .check-asked .ensures .answer)) ∙ c .before .before .before .before .enum-told .given .1) (sym (c .before .i .given .1) ∙ rw e at (c .before .before .before .first-misfit .ensures))
+    let m = c .before .before .before in
+    let t = m .before .before in
+    let k = t .before .before in
+    let e = toZ-ofZ w32 (k .before .args .d) (k .before .fits .d) in
+    fit-found _ _ _ _ _ (sym (rw e at (k .check-asked .ensures .answer)) ∙ t .enum-told .given .1) (sym (c .before .i .given .1) ∙ rw (e, m .before .rule-at .ensures) at (m .first-misfit .ensures))
 
 pub fit-spec : {M : Type 1} → statement M
 fit-spec =
@@ -50,6 +60,7 @@ fit-spec =
     check-asked-requires
     enum-known-r
     enum-told
+    rule-at-requires
     first-misfit-requires
     enum-told-2
     enum-known-i

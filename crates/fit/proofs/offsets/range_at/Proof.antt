@@ -1,5 +1,6 @@
 use mathlib.Core.Path.{sym, _∙_}
 use Rattle.jumper.proofs.Checks.{accepted-tracks}
+use Rattle.jumper.proofs.Wired.{tracks-rule}
 use Rattle.fit.proofs.Spans.{range-refused, range-answer}
 use borrow.Author.Needs.{needs}
 use Rattle.fit.proofs.offsets.range_at.Statement.{statement}
@@ -14,8 +15,13 @@ enum-known-r c = search needs
 enum-told : tie.Need-enum-told
 enum-told c = search needs
 
+rule-at-requires : tie.Need-rule-at-requires
+rule-at-requires c κs = search needs
+
 range-found-requires : tie.Need-range-found-requires
-range-found-requires c κs = accepted-tracks _ _ _ (sym (c .before .before .check-tracks .ensures .answer) ∙ c .enum-told .given .1)
+range-found-requires c κs =
+    let t = c .before in
+    rw (c .rule-at .ensures) (tracks-rule (accepted-tracks _ _ _ (sym (t .before .before .check-tracks .ensures .answer) ∙ t .enum-told .given .1)))
 
 returns : tie.Need-returns
 returns c =
@@ -23,9 +29,11 @@ returns c =
 
 returns-2 : tie.Need-returns-2
 returns-2 c =
-    rw (c .range-found .ensures) (range-answer _ _ _ (accepted-tracks _ _ _ (sym (c .before .before .before .check-tracks .ensures .answer) ∙ c .before .enum-told .given .1)))
+    let r = c .before in
+    let t = r .before in
+    rw (c .range-found .ensures, r .rule-at .ensures) (range-answer _ _ _ (accepted-tracks _ _ _ (sym (t .before .before .check-tracks .ensures .answer) ∙ t .enum-told .given .1)))
 
 pub range-at-spec : {M : Type 1} → statement M
 range-at-spec =
     tie.close
-    (tie.spec check-tracks-requires enum-known-r enum-told range-found-requires returns returns-2)
+    (tie.spec check-tracks-requires enum-known-r enum-told rule-at-requires range-found-requires returns returns-2)

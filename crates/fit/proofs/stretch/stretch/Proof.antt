@@ -2,7 +2,8 @@ use mathlib.Core.Path.{sym, _∙_}
 use mir.Syntax.{w32}
 use mir.ValLaws.{toZ-ofZ}
 use Rattle.jumper.proofs.Checks.{accepted-asked}
-use Rattle.fit.proofs.Misfits.{at-witness, witness-inside}
+use Rattle.jumper.proofs.Wired.{asked-rule}
+use Rattle.fit.proofs.Misfits.{at-broken, broken-inside}
 use borrow.Author.Needs.{needs}
 use Rattle.fit.proofs.stretch.stretch.Statement.{statement}
 use Rattle.fit.proofs.stretch.stretch.Tie as tie
@@ -19,8 +20,13 @@ slice-aggregate-result c = search needs
 enum-told-2 : tie.Need-enum-told-2
 enum-told-2 c = search needs
 
+rule-at-requires : tie.Need-rule-at-requires
+rule-at-requires c κs = search needs
+
 first-misfit-requires : tie.Need-first-misfit-requires
-first-misfit-requires c κs = accepted-asked _ _ _ _ (sym (c .before .before .check-asked .ensures .answer) ∙ c .enum-told2 .given .1)
+first-misfit-requires c κs =
+    let t = c .before in
+    rw (c .rule-at .ensures) (asked-rule (accepted-asked _ _ _ _ (sym (t .before .before .check-asked .ensures .answer) ∙ t .enum-told2 .given .1)))
 
 enum-told-3 : tie.Need-enum-told-3
 enum-told-3 c = search needs
@@ -33,13 +39,15 @@ enum-known-i c = search needs
 
 narrower-of-requires : tie.Need-narrower-of-requires
 narrower-of-requires c κs =
-    let k = c .before .before .before .before in
-    let s = k .before .before .before in
+    let m = c .before .before .before in
+    let t = m .before .before in
+    let k = t .before .before in
+    let s = k .before in
     let e = toZ-ofZ w32 (s .args .d) (s .fits .d) in
     let a = s .args .a .now in
     let b = s .args .b .now in (
-      accepted-asked a b (s .args .s) (s .args .d) (sym (rw e at (k .before .before .check-asked .ensures .answer)) ∙ k .enum-told2 .given .1) .rows,
-      witness-inside (at-witness a b (s .args .s) (s .args .d) _ _ (sym (rw e at (c .before .before .before .first-misfit .ensures)) ∙ c .before .i .given .1)),
+      accepted-asked a b (s .args .s) (s .args .d) (sym (rw e at (k .check-asked .ensures .answer)) ∙ t .enum-told2 .given .1) .rows,
+      broken-inside (at-broken a b _ (s .args .d) _ _ (sym (rw e at (m .first-misfit .ensures)) ∙ c .before .i .given .1)),
     )
 
 returns : tie.Need-returns
@@ -50,17 +58,21 @@ returns c =
 
 returns-2 : tie.Need-returns-2
 returns-2 c =
-    let s = c .before .before .before .before .before .before .before in
+    let m = c .before .before .before in
+    let t = m .before .before in
+    let k = t .before .before in
+    let s = k .before in
     let e = toZ-ofZ w32 (s .args .d) (s .fits .d) in
-    let k = c .before .before .before .before in
-    rw (sym (rw e at (k .before .before .check-asked .ensures .answer)) ∙ k .enum-told2 .given .1, sym (rw e at (c .before .before .before .first-misfit .ensures)) ∙ c .before .enum-told3 .given .1)
+    rw (sym (rw e at (k .check-asked .ensures .answer)) ∙ t .enum-told2 .given .1, sym (rw (e, m .before .rule-at .ensures) at (m .first-misfit .ensures)) ∙ c .before .enum-told3 .given .1)
 
 returns-3 : tie.Need-returns-3
 returns-3 c =
-    let s = c .before .before .before .before .before .before .before .before in
+    let m = c .before .before .before .before in
+    let t = m .before .before in
+    let k = t .before .before in
+    let s = k .before in
     let e = toZ-ofZ w32 (s .args .d) (s .fits .d) in
-    let k = c .before .before .before .before .before in
-    rw (sym (rw e at (k .before .before .check-asked .ensures .answer)) ∙ k .enum-told2 .given .1, sym (rw e at (c .before .before .before .before .first-misfit .ensures)) ∙ c .before .before .i .given .1) (c .narrower-of .ensures)
+    rw (sym (rw e at (k .check-asked .ensures .answer)) ∙ t .enum-told2 .given .1, sym (rw (e, m .before .rule-at .ensures) at (m .first-misfit .ensures)) ∙ c .before .before .i .given .1) (rw (m .before .rule-at .ensures) at (c .narrower-of .ensures))
 
 pub stretch-spec : {M : Type 1} → statement M
 stretch-spec =
@@ -70,6 +82,7 @@ stretch-spec =
     enum-told
     slice-aggregate-result
     enum-told-2
+    rule-at-requires
     first-misfit-requires
     enum-told-3
     slice-aggregate-result-2
