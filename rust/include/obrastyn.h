@@ -47,17 +47,22 @@ typedef struct {
 } obrastyn_place;
 obrastyn_place obrastyn_stretch(const int32_t *a, size_t an, const int32_t *b, size_t bn, size_t s, int32_t d);
 
-/* One line of an order form. separation 65535 is "least", offset INT32_MIN is "best". */
+/* What a line orders. separation 65535 is "least", offset INT32_MIN is "best". */
 typedef struct {
     size_t bottom; /* where its pads start in each pool, and how many pairs they are */
     size_t top;
     size_t pairs;
     uint32_t separation;
     int32_t offset;
+} obrastyn_order;
+
+/* One line of an order form. */
+typedef struct {
+    obrastyn_order order;
     obrastyn_numbers answer;
 } obrastyn_line;
 
-/* One record answered by value: the record with its answer, all else as it was. */
+/* One record answered by value: the record with its answer, its order as it was. */
 obrastyn_line obrastyn_answer(obrastyn_line line, const int32_t *a, size_t an, const int32_t *b, size_t bn);
 
 /* From target/staticlib/libform.a (`rt staticlib form`). 0, or 12 (LINE) for no such line or over 64 lines, and then nothing is written. */

@@ -16,8 +16,9 @@ use lib.IntN.{ℤ}
 use Rattle.jumper.specs.Limits.{maxLines}
 use Rattle.form.specs.Line.{answerOf, answeredOf, Inside, LineAnswer, SameLine}
 use Rattle.form.specs.Table.{noRecord, recordAt, tooLong, lineSays, lineDone, allSays, answeredEach, allDone, inOrder, among, OneAnswered, AllAnswered, RowsAnswered}
+use Rattle.form.specs.declared.line.Order.{Order}
 use Rattle.form.specs.declared.line.Line.{Line}
-use Rattle.form.proofs.Lines.{outside-answer, inside-answer}
+use Rattle.form.proofs.Lines.{decInside, outside-answer, inside-answer}
 
 -- ---- what each way out says
 module _ (t : List Line) (k : ℕ) (p q : List ℤ) where
@@ -243,28 +244,22 @@ pub all-in-turn : (t : List Line) (p q : List ℤ) → inOrder (onward 0 (length
 all-in-turn t p q = all-in-any-order p q (onward 0 (length t)) t (λ j h. onward-among j 0 (length t) (omega arith) (omega arith))
 
 -- ---- a line's answer depends on its own record and pads alone
-pub own-answer : (l : Line) (p q : List ℤ) (l' : Line) (p' q' : List ℤ) → SameLine l p q l' p' q' → answerOf l p q ≡ answerOf l' p' q'
-own-answer l p q l' p' q' s = go (decLt (length p) (l .bottom + l .pairs)) (decLt (length q) (l .top + l .pairs))
+pub own-answer : (o : Order) (p q : List ℤ) (o' : Order) (p' q' : List ℤ) → SameLine o p q o' p' q' → answerOf o p q ≡ answerOf o' p' q'
+own-answer o p q o' p' q' s = go (decInside o p q)
   where
-    none : (Inside l p q → ⊥) → answerOf l p q ≡ answerOf l' p' q'
-    none h = outside-answer l p q h ∙ sym (outside-answer l' p' q' (λ i. h (s .inside .1 i)))
-
-    go : Dec (length p < l .bottom + l .pairs) → Dec (length q < l .top + l .pairs) → answerOf l p q ≡ answerOf l' p' q'
-    go (yes e) d = none (λ i. omega (arith, i .bottom))
-    go (no e) (yes f) = none (λ i. omega (arith, i .top))
-    go (no e) (no f) =
-        let i : Inside l p q = record { bottom = omega arith; top = omega arith } in
-        inside-answer l p q i ∙ rw (s .bottom, s .top, s .separation, s .offset) (sym (inside-answer l' p' q' (s .inside .0 i)))
+    go : Dec (Inside o p q) → answerOf o p q ≡ answerOf o' p' q'
+    go (yes i) = inside-answer o p q i ∙ rw (s .bottom, s .top, s .wish) (sym (inside-answer o' p' q' (s .inside .0 i)))
+    go (no h) = outside-answer o p q h ∙ sym (outside-answer o' p' q' (λ i. h (s .inside .1 i)))
 
 -- two forms that agree on a line's record and pads agree on its answer, whatever the others hold: answered alone, and among all
 module _ (t t' : List Line) (p q p' q' : List ℤ) (k k' : ℕ) (h : k < length t) (h' : k' < length t') (few : length t ≤ maxLines) (few' : length t' ≤ maxLines)
-    (same : SameLine (recordAt t k) p q (recordAt t' k') p' q') where
+    (same : SameLine (recordAt t k .order) p q (recordAt t' k' .order) p' q') where
   pub own-alone : recordAt (lineDone t k p q) k .answer ≡ recordAt (lineDone t' k' p' q') k' .answer
   own-alone =
       rw (line-record p q t k k few h, line-record p' q' t' k' k' few' h', eq-eqb k k refl, eq-eqb k' k' refl)
-      (own-answer (recordAt t k) p q (recordAt t' k') p' q' same)
+      (own-answer (recordAt t k .order) p q (recordAt t' k' .order) p' q' same)
 
   pub own-among-all : recordAt (allDone t p q) k .answer ≡ recordAt (allDone t' p' q') k' .answer
   own-among-all =
       rw (le-ltb maxLines (length t) few, le-ltb maxLines (length t') few', map-at (λ l. answeredOf l p q) t k noRecord h, map-at (λ l. answeredOf l p' q') t' k' noRecord h')
-      (own-answer (recordAt t k) p q (recordAt t' k') p' q' same)
+      (own-answer (recordAt t k .order) p q (recordAt t' k' .order) p' q' same)

@@ -6,16 +6,16 @@ use mathlib.Core.Logic.{_↔_}
 use Prim.Native.Nat.{ℕ, _≤_, _<_}
 use lib.Dec.{eqb, ltb, leb}
 use lib.ListN.{length, getD, set}
-use lib.IntN.{ℤ, pos}
+use lib.IntN.{ℤ}
 use Rattle.jumper.specs.Limits.{maxLines}
 use Rattle.jumper.specs.Refusals.{refusalNumbers, nothing}
 use Rattle.jumper.specs.declared.refusal.Refusal.the-variants.{Line as NoLine}
-use Rattle.form.specs.Line.{answeredOf, LineAnswer}
+use Rattle.form.specs.Line.{noOrder, answeredOf, LineAnswer}
 use Rattle.form.specs.declared.line.Line.{Line}
 
 -- record k of a table; past its end, where nothing is read, the record of no line
 abbrev pub noRecord : Line
-noRecord = record { bottom = 0; top = 0; pairs = 0; separation = 0; offset = pos 0; answer = nothing }
+noRecord = record { order = noOrder; answer = nothing }
 
 abbrev pub recordAt : List Line → ℕ → Line
 recordAt t k = getD t k noRecord

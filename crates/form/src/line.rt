@@ -1,4 +1,4 @@
-// One line's record, answered by value.
+// One line's record, an order and its answer, answered by value.
 ghost use mathlib.Core.Path.{_≡_};
 ghost use Rattle.form.specs.Line.{outside, withAnswer, LineAnswer};
 use jumper::refusal::Numbers;
@@ -6,8 +6,9 @@ use jumper::refusal::Refusal;
 use plan::plan::plan;
 use plan::wish::wish_of;
 
+// What a line orders. Only `answer` reads its fields.
 #[repr(C)]
-pub struct Line {
+pub struct Order {
     // Where the line's pads start in each pool, and how many pairs they are.
     pub bottom: usize,
     pub top: usize,
@@ -15,6 +16,11 @@ pub struct Line {
     // The wish: a separation or wish::LEAST, an offset or wish::BEST.
     pub separation: u32,
     pub offset: i32,
+}
+
+#[repr(C)]
+pub struct Line {
+    pub order: Order,
     pub answer: Numbers,
 }
 
@@ -32,9 +38,9 @@ fn runs_out(start: usize, pairs: usize, len: usize) -> bool
 fn answer(line: Line, pool_a: &[i32], pool_b: &[i32]) -> Numbers
     ensures { λ r. ⌜ LineAnswer line (now («pool_a» .entry)) (now («pool_b» .entry)) (withAnswer line r) ⌝ }
 {
-    let i = line.bottom;
-    let j = line.top;
-    let n = line.pairs;
+    let i = line.order.bottom;
+    let j = line.order.top;
+    let n = line.order.pairs;
     if runs_out(i, n, pool_a.len()) {
         return Refusal::Line.numbers();
     }
@@ -44,13 +50,13 @@ fn answer(line: Line, pool_a: &[i32], pool_b: &[i32]) -> Numbers
     let p = i + n;
     let q = j + n;
     plan(
-        wish_of(line.separation, line.offset),
+        wish_of(line.order.separation, line.order.offset),
         &pool_a[i..p],
         &pool_b[j..q],
     )
 }
 
-// The record with its answer, all else as it was.
+// The record with its answer, its order as it was.
 pub fn answered(line: Line, pool_a: &[i32], pool_b: &[i32]) -> Line
     ensures { λ r. ⌜ LineAnswer line (now («pool_a» .entry)) (now («pool_b» .entry)) r ⌝ }
 {

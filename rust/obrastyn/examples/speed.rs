@@ -92,7 +92,8 @@ fn form(tight: bool) {
         a.extend(x);
         b.extend(y);
     }
-    let mut ours: Vec<obrastyn::Line> = (0..64).map(|k| obrastyn::Line { bottom: 2048 * k, top: 2048 * k, pairs: 2048, separation: obrastyn::LEAST, offset: obrastyn::BEST, ..Default::default() }).collect();
+    let order = |k: usize| obrastyn::Order { bottom: 2048 * k, top: 2048 * k, pairs: 2048, separation: obrastyn::LEAST, offset: obrastyn::BEST };
+    let mut ours: Vec<obrastyn::Line> = (0..64).map(|k| obrastyn::Line { order: order(k), answer: Default::default() }).collect();
     let mut plain: Vec<Record> = (0..64).map(|k| Record { bottom_start: 2048 * k, top_start: 2048 * k, count: 2048, wish: Wish { separation: None, offset: None }, answer: Default::default() }).collect();
     let (x, y) = (&a[..], &b[..]);
     row(&format!("form, 64 lines of 2048 pairs, {kind}"), race(|| obrastyn::answer_all(black_box(&mut ours), x, y), || baseline::answer_form(black_box(&mut plain), x, y)));

@@ -51,10 +51,10 @@ pub const LEAST: u32 = 65535;
 /// The mark for "best" as a line's offset.
 pub const BEST: i32 = i32::MIN;
 
-/// One line of an order form: where its pads start in each pool, how many pairs they are, its wish, and its answer.
+/// What a line orders: where its pads start in each pool, how many pairs they are, and its wish.
 #[repr(C)]
 #[derive(Clone, Copy, Debug, Default, PartialEq, Eq)]
-pub struct Line {
+pub struct Order {
     pub bottom: usize,
     pub top: usize,
     pub pairs: usize,
@@ -62,6 +62,13 @@ pub struct Line {
     pub separation: u32,
     /// An offset, or [`BEST`].
     pub offset: i32,
+}
+
+/// One line of an order form: its order, and its answer.
+#[repr(C)]
+#[derive(Clone, Copy, Debug, Default, PartialEq, Eq)]
+pub struct Line {
+    pub order: Order,
     pub answer: Numbers,
 }
 
@@ -134,7 +141,7 @@ pub fn check(a: &[i32], b: &[i32], s: usize, d: i32, table: &[i32]) -> Numbers {
     unsafe { raw::obrastyn_check(a.as_ptr(), a.len(), b.as_ptr(), b.len(), s, d, table.as_ptr(), table.len()) }
 }
 
-/// One record answered by value: the record with its answer, all else as it was.
+/// One record answered by value: the record with its answer, its order as it was.
 pub fn answer(line: Line, bottoms: &[i32], tops: &[i32]) -> Line {
     unsafe { raw::obrastyn_answer(line, bottoms.as_ptr(), bottoms.len(), tops.as_ptr(), tops.len()) }
 }

@@ -1,9 +1,6 @@
 use mathlib.Core.Path.{sym, _∙_}
-use Prim.Native.Nat.{_+_, _≤_}
-use borrow.Author.Tests.{ltb-false}
-use lib.ListN.{length}
 use Rattle.whole.proofs.Machine.{back}
-use Rattle.form.proofs.Lines.{bottom-out, top-out, line-outside, line-planned}
+use Rattle.form.proofs.Lines.{within, bottom-out, top-out, line-outside, line-planned}
 use borrow.Author.Needs.{needs}
 use Rattle.form.proofs.line.answer.Statement.{statement}
 use Rattle.form.proofs.line.answer.Tie as tie
@@ -28,16 +25,16 @@ returns-2 c = rw (c .numbers2 .ensures) (line-outside _ _ _ (top-out _ _ _ (sym 
 
 add-p : tie.Need-add-p
 add-p c =
-    let s = c .before .before .before .before in
-    let i : s .args .line .bottom + s .args .line .pairs ≤ length (s .args .pool-a .now) = ltb-false _ _ (sym (c .before .before .before .runs-out .ensures) ∙ c .before .before .if1 .left) in
-    let j : s .args .line .top + s .args .line .pairs ≤ length (s .args .pool-b .now) = ltb-false _ _ (sym (c .before .runs-out2 .ensures) ∙ c .if2 .left) in
+    let t = c .before in
+    let s = t .before .before .before .args in
+    let i = within (s .line .order) (s .pool-a .now) (s .pool-b .now) (t .before .before .runs-out .ensures) (t .before .if1 .left) (t .runs-out2 .ensures) (c .if2 .left) in
     search needs
 
 add-q : tie.Need-add-q
 add-q c =
-    let s = c .before .before .before .before in
-    let i : s .args .line .bottom + s .args .line .pairs ≤ length (s .args .pool-a .now) = ltb-false _ _ (sym (c .before .before .before .runs-out .ensures) ∙ c .before .before .if1 .left) in
-    let j : s .args .line .top + s .args .line .pairs ≤ length (s .args .pool-b .now) = ltb-false _ _ (sym (c .before .runs-out2 .ensures) ∙ c .if2 .left) in
+    let t = c .before in
+    let s = t .before .before .before .args in
+    let i = within (s .line .order) (s .pool-a .now) (s .pool-b .now) (t .before .before .runs-out .ensures) (t .before .if1 .left) (t .runs-out2 .ensures) (c .if2 .left) in
     search needs
 
 wish-of-requires : tie.Need-wish-of-requires
@@ -45,9 +42,9 @@ wish-of-requires c κs = search needs
 
 mul-plan : tie.Need-mul-plan
 mul-plan c =
-    let s = c .before .before .before .before .before .before in
-    let i : s .args .line .bottom + s .args .line .pairs ≤ length (s .args .pool-a .now) = ltb-false _ _ (sym (c .before .before .before .before .before .runs-out .ensures) ∙ c .before .before .before .before .if1 .left) in
-    let j : s .args .line .top + s .args .line .pairs ≤ length (s .args .pool-b .now) = ltb-false _ _ (sym (c .before .before .before .runs-out2 .ensures) ∙ c .before .before .if2 .left) in
+    let t = c .before .before .before in
+    let s = t .before .before .before .args in
+    let i = within (s .line .order) (s .pool-a .now) (s .pool-b .now) (t .before .before .runs-out .ensures) (t .before .if1 .left) (t .runs-out2 .ensures) (c .before .before .if2 .left) in
     search needs
 
 sub-plan : tie.Need-sub-plan
@@ -58,16 +55,16 @@ part-plan-start c = search needs
 
 part-plan-end : tie.Need-part-plan-end
 part-plan-end c =
-    let s = c .before .before .before .before .before .before in
-    let i : s .args .line .bottom + s .args .line .pairs ≤ length (s .args .pool-a .now) = ltb-false _ _ (sym (c .before .before .before .before .before .runs-out .ensures) ∙ c .before .before .before .before .if1 .left) in
-    let j : s .args .line .top + s .args .line .pairs ≤ length (s .args .pool-b .now) = ltb-false _ _ (sym (c .before .before .before .runs-out2 .ensures) ∙ c .before .before .if2 .left) in
+    let t = c .before .before .before in
+    let s = t .before .before .before .args in
+    let i = within (s .line .order) (s .pool-a .now) (s .pool-b .now) (t .before .before .runs-out .ensures) (t .before .if1 .left) (t .runs-out2 .ensures) (c .before .before .if2 .left) in
     search needs
 
 mul-plan-2 : tie.Need-mul-plan-2
 mul-plan-2 c =
-    let s = c .before .before .before .before .before .before .before in
-    let i : s .args .line .bottom + s .args .line .pairs ≤ length (s .args .pool-a .now) = ltb-false _ _ (sym (c .before .before .before .before .before .before .runs-out .ensures) ∙ c .before .before .before .before .before .if1 .left) in
-    let j : s .args .line .top + s .args .line .pairs ≤ length (s .args .pool-b .now) = ltb-false _ _ (sym (c .before .before .before .before .runs-out2 .ensures) ∙ c .before .before .before .if2 .left) in
+    let t = c .before .before .before .before in
+    let s = t .before .before .before .args in
+    let i = within (s .line .order) (s .pool-a .now) (s .pool-b .now) (t .before .before .runs-out .ensures) (t .before .if1 .left) (t .runs-out2 .ensures) (c .before .before .before .if2 .left) in
     search needs
 
 sub-plan-2 : tie.Need-sub-plan-2
@@ -78,9 +75,9 @@ part-plan-start-2 c = search needs
 
 part-plan-end-2 : tie.Need-part-plan-end-2
 part-plan-end-2 c =
-    let s = c .before .before .before .before .before .before .before in
-    let i : s .args .line .bottom + s .args .line .pairs ≤ length (s .args .pool-a .now) = ltb-false _ _ (sym (c .before .before .before .before .before .before .runs-out .ensures) ∙ c .before .before .before .before .before .if1 .left) in
-    let j : s .args .line .top + s .args .line .pairs ≤ length (s .args .pool-b .now) = ltb-false _ _ (sym (c .before .before .before .before .runs-out2 .ensures) ∙ c .before .before .before .if2 .left) in
+    let t = c .before .before .before .before in
+    let s = t .before .before .before .args in
+    let i = within (s .line .order) (s .pool-a .now) (s .pool-b .now) (t .before .before .runs-out .ensures) (t .before .if1 .left) (t .runs-out2 .ensures) (c .before .before .before .if2 .left) in
     search needs
 
 plan-requires : tie.Need-plan-requires
@@ -88,11 +85,13 @@ plan-requires c κs = search needs
 
 returns-3 : tie.Need-returns-3
 returns-3 c =
-    let s = c .before .before .before .before .before .before .before .before .before in
-    let f = sym (c .before .before .before .before .before .before .before .before .runs-out .ensures) ∙ c .before .before .before .before .before .before .before .if1 .left in
-    let g = sym (c .before .before .before .before .before .before .runs-out2 .ensures) ∙ c .before .before .before .before .before .if2 .left in
-    let d = back (s .args .line .offset) (c .before .before .before .before .struct-told .given .1 .1 .1 .1 .0 .1) in
-    line-planned _ _ _ _ _ f g (rw d at (c .before .before .before .wish-of .ensures)) (c .plan .ensures)
+    let at-wish = c .before .before .before in
+    let at-struct = at-wish .before in
+    let at-top = at-struct .before .before in
+    let at-bottom = at-top .before .before in
+    line-planned _ _ _ _ _ (within _ _ _ (at-bottom .runs-out .ensures) (at-top .before .if1 .left) (at-top .runs-out2 .ensures) (at-struct .before .if2 .left))
+    (rw (back (at-bottom .before .args .line .order .offset) (at-struct .struct-told .given .0 .1 .1 .1 .1 .1 .1 .0 .1)) at (at-wish .wish-of .ensures))
+    (c .plan .ensures)
 
 pub answer-spec : {M : Type 1} → statement M
 answer-spec =

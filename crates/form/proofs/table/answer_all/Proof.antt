@@ -35,7 +35,7 @@ use borrow.Author.Tests.{lt-ltb, le-ltb}
 use denote.RattleType.{owns}
 use denote.Shadow.{pureI}
 use denote.Laws.{Is, shows}
-use denote.Memory.{pointee}
+use denote.Memory.{pointee, mem as inMemory}
 use denote.Plain.{uint-makes}
 use denote.Builtin.{u8, i32}
 use denote.Ref.{RefT, now}
@@ -71,6 +71,10 @@ use Rattle.form.proofs.table.answer_all as it
 use Rattle.form.proofs.table.answer_all.Statement as stated
 use Rattle.form.proofs.table.answer_all.Code as code
 use Rattle.form.proofs.table.answer_all.Code.Mir as mir
+
+-- how many bytes of the table a record takes
+abbrev bytes : ℕ
+bytes = inMemory R .size
 
 abbrev stayed : Stays (it.ended .signature .params) (it.ended .kept)
 stayed = (stay-slice (0 ∷ []) tt (plain (λ _. R)), (stay-none-slice (1 ∷ []) tt (plain (λ _. i32)) ok, (stay-none-slice (2 ∷ []) tt (plain (λ _. i32)) ok, tt)))
@@ -174,7 +178,7 @@ module _ {M : Type 1} (𝓤 : URA M) (H : Heap 𝓤) (A : Atoms 𝓤) (W : Given
         stays ! (load ! (from ! (stop !)) (look ! 11 refl)) $
         assigns ! (bin ! (load ! (from ! (stop !)) (look ! 21 refl)) (lit ! tt) scaled) (from ! (stop !)) (store ! 13 refl (tt, scaled)) $
         assigns ! (bin ! (load ! (from ! (fld ! refl (stop !))) (look-in ! 27 (sub ! 0 refl (whole !)))) (load ! (from ! (stop !)) (look ! 13 refl)) tt) (from ! (stop !)) (init ! 9 refl (tt, tt)) $
-        rewrite ! 9 (λ (p : ℕ). ‵ (fat fullShare tyPtr l₁₀ 0 (vptr b p))) (sym (place-is 96 o (i .0))) refl $
+        rewrite ! 9 (λ (p : ℕ). ‵ (fat fullShare tyPtr l₁₀ 0 (vptr b p))) (sym (place-is bytes o (i .0))) refl $
         opens-slice ! tt R t b o $ elem-out ! R (Is R) (shows 𝓤 H A R) vals (LL.tells L.the-type L′.the-laws) fullShare t (i .0) noRecord b o within (λ g.
         -- [line i; what it owns; the others; the open borrow; obs; auth; the pools; their tokens; _12 at 8; …; _0 at 32]
         assigns ! (of-opd ! (load ! (from ! (hop ! (look ! 12 refl) (stop !))) (look-raw ! 0 refl))) (from ! (stop !)) (init ! 10 refl (LL.lawful L.the-type L′.the-laws 𝓤 H A W .typed d _ g .0)) $
@@ -190,7 +194,7 @@ module _ {M : Type 1} (𝓤 : URA M) (H : Heap 𝓤) (A : Atoms 𝓤) (W : Given
         rewrite ! 23 (λ (w : Val). ‵ (fat fullShare L′.mir l₅ 0 w)) (ap only told) refl $ rewrite ! 0 (λ (us : List Val). ‵ (R .own r us)) told refl $
         assigns ! (bin ! (load ! (from ! (stop !)) (look ! 25 refl)) (lit ! tt) scaled) (from ! (stop !)) (store ! 17 refl (tt, scaled)) $
         assigns ! (bin ! (load ! (from ! (fld ! refl (stop !))) (look-in ! 31 (sub ! 0 refl (whole !)))) (load ! (from ! (stop !)) (look ! 17 refl)) tt) (from ! (stop !)) (init ! 9 refl (tt, tt)) $
-        rewrite ! 9 (λ (p : ℕ). ‵ (fat fullShare tyPtr l₁₂ 0 (vptr b p))) (sym (place-is 96 o (i .0))) refl $
+        rewrite ! 9 (λ (p : ℕ). ‵ (fat fullShare tyPtr l₁₂ 0 (vptr b p))) (sym (place-is bytes o (i .0))) refl $
         assigns ! (of-opd ! (load ! (from ! (stop !)) (look ! 23 refl))) (from ! (hop ! (look ! 9 refl) (stop !))) (store-raw ! 3 refl wt) $
         move ! (3 ∷ 0 ∷ 5 ∷ []) $ elem-put ! R fullShare t (i .0) r (vals r) b o within $ move ! (3 ∷ []) $ drop ! $ move ! (0 ∷ 3 ∷ 4 ∷ 5 ∷ 2 ∷ []) $ closes-slice ! tt R t (set t (i .0) r) (length-set t (i .0) r) b o $
         assigns-last ! (bin ! (load ! (from ! (stop !)) (look ! 21 refl)) (lit ! tt) (record { fits = fits })) (from ! (stop !)) (store ! 21 refl (tt, record { fits = fits })) $
@@ -207,8 +211,8 @@ module _ {M : Type 1} (𝓤 : URA M) (H : Heap 𝓤) (A : Atoms 𝓤) (W : Given
         within : i .0 < length t
         within = subst (λ (m : ℕ). i .0 < m) (sym (upto-length f (i .0) ys)) less
 
-        scaled : Fits w64 (i .0 * 96)
-        scaled = scaled-fits (i .0) n 96 less (room .1)
+        scaled : Fits w64 (i .0 * bytes)
+        scaled = scaled-fits (i .0) n bytes less (room .1)
 
         next : (r : Line) → LineAnswer d (now pa) (now pb) r → Upto
         next r e = (i .0 + 1, add-one-le less, more-done ys (now pa) (now pb) (i .0) r (i .2) e)

@@ -27,7 +27,7 @@ use borrow.Author.Needs.{scaled-fits}
 use denote.RattleType.{owns}
 use denote.Shadow.{pureI}
 use denote.Laws.{Is, shows}
-use denote.Memory.{pointee}
+use denote.Memory.{pointee, mem as inMemory}
 use denote.Plain.{uint-makes, uint-vals, uint-tells}
 use denote.Builtin.{u8, usize, i32}
 use denote.Ref.{RefT, now}
@@ -63,6 +63,10 @@ use Rattle.form.proofs.table.answer_line as it
 use Rattle.form.proofs.table.answer_line.Statement as stated
 use Rattle.form.proofs.table.answer_line.Code as code
 use Rattle.form.proofs.table.answer_line.Code.Mir as mir
+
+-- how many bytes of the table a record takes
+abbrev bytes : ℕ
+bytes = inMemory R .size
 
 abbrev stayed : Stays (it.ended .signature .params) (it.ended .kept)
 stayed = (stay-slice (0 ∷ []) tt (plain (λ _. R)), (stay-none (λ _. usize) yes, (stay-none-slice (1 ∷ []) tt (plain (λ _. i32)) yes, (stay-none-slice (2 ∷ []) tt (plain (λ _. i32)) yes, tt))))
@@ -157,11 +161,11 @@ module _ {M : Type 1} (𝓤 : URA M) (H : Heap 𝓤) (A : Atoms 𝓤) (W : Given
         freed C Λ fm known l₀ l₁ l₂ l₃ l₄ l₅ l₆ l₇ l₈ l₉ l₁₀ 12 ys (lit< tt) refl (one-past ys k (now pa) (now pb) (nltb→le maxLines (length ys) few) (leb→le (length ys) k over)))
         (λ in-it. skips ! $ exec ! C Λ (E C Λ fm known l₀ l₁ l₂ l₃ l₄ l₅ l₆ l₇ l₈ l₉ l₁₀) mir.t-7 (atRet (E C Λ fm known l₀ l₁ l₂ l₃ l₄ l₅ l₆ l₇ l₈ l₉ l₁₀) Post) $
         let within : k < length ys = nleb→lt (length ys) k in-it in
-        let scaled : Fits w64 (k * 96) = scaled-fits k (length ys) 96 within (room .1) in
+        let scaled : Fits w64 (k * bytes) = scaled-fits k (length ys) bytes within (room .1) in
         -- the place of line k
         assigns ! (bin ! (load ! (from ! (stop !)) (look ! 21 refl)) (lit ! tt) scaled) (from ! (stop !)) (store ! 13 refl (tt, scaled)) $
         assigns ! (bin ! (load ! (from ! (fld ! refl (stop !))) (look-in ! 23 (sub ! 0 refl (whole !)))) (load ! (from ! (stop !)) (look ! 13 refl)) tt) (from ! (stop !)) (init ! 9 refl (tt, tt)) $
-        rewrite ! 9 (λ (p : ℕ). ‵ (fat fullShare tyPtr l₈ 0 (vptr b p))) (sym (place-is 96 o k)) refl $
+        rewrite ! 9 (λ (p : ℕ). ‵ (fat fullShare tyPtr l₈ 0 (vptr b p))) (sym (place-is bytes o k)) refl $
         -- the borrow is opened, line k is taken out of the row, and is copied
         opens-slice ! tt R ys b o $ elem-out ! R (Is R) (shows 𝓤 H A R) vals (LL.tells L.the-type L′.the-laws) fullShare ys k noRecord b o within (λ g.
         -- [line k; what it owns; the others; the open borrow; obs; auth; the pools; their tokens; _10 at 8; _9 at 10; _8 at 12; _7 at 14; _6 at 16; _5 at 18; _4 at 20; _3 at 22; _2 at 24; _1 at 26; _0 at 28]
@@ -180,7 +184,7 @@ module _ {M : Type 1} (𝓤 : URA M) (H : Heap 𝓤) (A : Atoms 𝓤) (W : Given
         -- the result is stored in line k's place
         assigns ! (bin ! (load ! (from ! (stop !)) (look ! 25 refl)) (lit ! tt) scaled) (from ! (stop !)) (store ! 17 refl (tt, scaled)) $
         assigns ! (bin ! (load ! (from ! (fld ! refl (stop !))) (look-in ! 27 (sub ! 0 refl (whole !)))) (load ! (from ! (stop !)) (look ! 17 refl)) tt) (from ! (stop !)) (init ! 9 refl (tt, tt)) $
-        rewrite ! 9 (λ (p : ℕ). ‵ (fat fullShare tyPtr l₁₀ 0 (vptr b p))) (sym (place-is 96 o k)) refl $
+        rewrite ! 9 (λ (p : ℕ). ‵ (fat fullShare tyPtr l₁₀ 0 (vptr b p))) (sym (place-is bytes o k)) refl $
         assigns ! (of-opd ! (load ! (from ! (stop !)) (look ! 19 refl))) (from ! (hop ! (look ! 9 refl) (stop !))) (store-raw ! 3 refl (LL.lawful L.the-type L′.the-laws 𝓤 H A W .typed r _ is′ .0)) $
         assigns ! (of-opd ! (lit ! tt)) (from ! (stop !)) (init ! 29 refl (tt, record { fits = lit< tt })) $
         -- the row is put together, and the borrow is closed at it
