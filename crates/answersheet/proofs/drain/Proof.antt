@@ -19,7 +19,10 @@ give-requires : tie.Need-give-requires Inv-loop μ-loop
 give-requires c κs = search needs
 
 send-requires : tie.Need-send-requires Inv-loop μ-loop
-send-requires c κs = let z = c .before .before .before .before .give .ensures .fits (omega (arith, c .before .before .before .before .before .before .before .before .before .loop .inv .0, c .before .before .before .before .before .before .before .before .before .loop .inv .1)) in omega (arith, z, c .before .before .before .before .give .kept .1 .1 .1 .0)
+send-requires c κs =
+    let at-give = c .before .before .before .before in
+    let at-loop = at-give .before .before .before .before .before in
+    let z = at-give .give .ensures .fits (omega (arith, at-loop .loop .inv .0, at-loop .loop .inv .1)) in omega (arith, z, at-give .give .kept .1 .1 .1 .0)
 
 busy-requires : tie.Need-busy-requires Inv-loop μ-loop
 busy-requires c κs = search needs
@@ -31,7 +34,10 @@ loop-less : tie.Need-loop-less Inv-loop μ-loop
 loop-less c = search needs
 
 loop-again : tie.Need-loop-again Inv-loop μ-loop
-loop-again c = (c .before .before .before .before .before .before .give .kept .1 .1 .1 .0 ∙ c .before .before .before .before .before .before .before .before .before .before .before .loop .inv .0, omega arith)
+loop-again c =
+    let at-give = c .before .before .before .before .before .before in
+    let at-loop = at-give .before .before .before .before .before in
+    (at-give .give .kept .1 .1 .1 .0 ∙ at-loop .loop .inv .0, omega arith)
 
 same-length : tie.Need-same-length Inv-loop μ-loop
 same-length c = c .before .before .before .loop .inv .0

@@ -29,10 +29,17 @@ feed-requires : tie.Need-feed-requires Inv-loop μ-loop
 feed-requires c κs = search needs
 
 add-used : tie.Need-add-used Inv-loop μ-loop
-add-used c = let w = simp (length-take, length-drop) at (c .before .before .before .before .feed .ensures .within) in omega (arith, w, c .before .before .before .before .before .before .before .before .before .before .before .before .before .loop .inv .0, c .before .before .before .before .before .before .before .before .before .before .before .before .before .before .before .before .good)
+add-used c =
+    let at-feed = c .before .before .before .before in
+    let at-loop = at-feed .before .before .before .before .before .before .before .before .before in
+    let at-good = at-loop .before .before .before in
+    let w = simp (length-take, length-drop) at (at-feed .feed .ensures .within) in omega (arith, w, at-loop .loop .inv .0, at-good .good)
 
 send-requires : tie.Need-send-requires Inv-loop μ-loop
-send-requires c κs = let z = c .before .before .before .before .before .before .feed .ensures .fits (omega (arith, c .before .before .before .before .before .before .before .before .before .before .before .before .before .before .before .loop .inv .1, c .before .before .before .before .before .before .before .before .before .before .before .before .before .before .before .loop .inv .2)) in omega (arith, z, c .before .before .before .before .before .before .feed .kept .1 .1 .1 .1 .1 .0)
+send-requires c κs =
+    let at-feed = c .before .before .before .before .before .before in
+    let at-loop = at-feed .before .before .before .before .before .before .before .before .before in
+    let z = at-feed .feed .ensures .fits (omega (arith, at-loop .loop .inv .1, at-loop .loop .inv .2)) in omega (arith, z, at-feed .feed .kept .1 .1 .1 .1 .1 .0)
 
 sub-turns : tie.Need-sub-turns Inv-loop μ-loop
 sub-turns c = search needs
@@ -41,7 +48,10 @@ loop-less : tie.Need-loop-less Inv-loop μ-loop
 loop-less c = search needs
 
 loop-again : tie.Need-loop-again Inv-loop μ-loop
-loop-again c = (let w = simp (length-take, length-drop) at (c .before .before .before .before .before .feed .ensures .within) in omega (arith, w, c .before .before .before .before .before .before .before .before .before .before .before .before .before .before .loop .inv .0), c .before .before .before .before .before .feed .kept .1 .1 .1 .1 .1 .0 ∙ c .before .before .before .before .before .before .before .before .before .before .before .before .before .before .loop .inv .1, ⊎-elim (λ w. omega (arith, w .3)) (λ w. let z = c .before .before .before .before .before .feed .ensures .fits (omega (arith, c .before .before .before .before .before .before .before .before .before .before .before .before .before .before .loop .inv .1, c .before .before .before .before .before .before .before .before .before .before .before .before .before .before .loop .inv .2)) in omega (arith, z, w .1, c .before .before .before .before .before .before .before .before .before .before .before .before .before .before .loop .inv .1)) (c .if3 .came))
+loop-again c =
+    let at-feed = c .before .before .before .before .before in
+    let at-loop = at-feed .before .before .before .before .before .before .before .before .before in
+    (let w = simp (length-take, length-drop) at (at-feed .feed .ensures .within) in omega (arith, w, at-loop .loop .inv .0), at-feed .feed .kept .1 .1 .1 .1 .1 .0 ∙ at-loop .loop .inv .1, ⊎-elim (λ w. omega (arith, w .3)) (λ w. let z = at-feed .feed .ensures .fits (omega (arith, at-loop .loop .inv .1, at-loop .loop .inv .2)) in omega (arith, z, w .1, at-loop .loop .inv .1)) (c .if3 .came))
 
 same-length : tie.Need-same-length Inv-loop μ-loop
 same-length c = c .before .before .before .loop .inv .1

@@ -19,7 +19,9 @@ loop-holds : tie.Need-loop-holds Inv-loop μ-loop
 loop-holds c = (refl, omega arith)
 
 turn-requires : tie.Need-turn-requires Inv-loop μ-loop
-turn-requires c κs = omega (arith, c .before .before .before .before .before .before .loop .inv .0, c .before .before .before .before .before .before .loop .inv .1)
+turn-requires c κs =
+    let at-loop = c .before .before .before .before .before .before in
+    omega (arith, at-loop .loop .inv .0, at-loop .loop .inv .1)
 
 sub-turns : tie.Need-sub-turns Inv-loop μ-loop
 sub-turns c = search needs
@@ -28,10 +30,15 @@ loop-less : tie.Need-loop-less Inv-loop μ-loop
 loop-less c = search needs
 
 loop-again : tie.Need-loop-again Inv-loop μ-loop
-loop-again c = (c .before .before .before .turn .kept .1 .1 .1 .0 ∙ c .before .before .before .before .before .before .before .before .before .before .loop .inv .0, omega (arith, c .before .before .before .turn .ensures, c .before .before .before .before .before .before .before .before .before .before .loop .inv .0))
+loop-again c =
+    let at-turn = c .before .before .before in
+    let at-loop = at-turn .before .before .before .before .before .before .before in
+    (at-turn .turn .kept .1 .1 .1 .0 ∙ at-loop .loop .inv .0, omega (arith, at-turn .turn .ensures, at-loop .loop .inv .0))
 
 drain-requires : tie.Need-drain-requires Inv-loop μ-loop
-drain-requires c κs = omega (arith, c .before .before .before .before .before .loop .inv .0, c .before .before .before .before .before .loop .inv .1)
+drain-requires c κs =
+    let at-loop = c .before .before .before .before .before in
+    omega (arith, at-loop .loop .inv .0, at-loop .loop .inv .1)
 
 finish-requires : tie.Need-finish-requires Inv-loop μ-loop
 finish-requires c κs = search needs
@@ -40,13 +47,18 @@ drain-requires-2 : tie.Need-drain-requires-2 Inv-loop μ-loop
 drain-requires-2 c κs = omega arith
 
 same-length : tie.Need-same-length Inv-loop μ-loop
-same-length c = c .before .before .drain2 .kept .1 .1 .0 ∙ c .before .before .before .before .before .before .before .before .before .before .before .before .drain .kept .1 .1 .0 ∙ c .before .before .before .before .before .before .before .before .before .before .before .before .before .before .before .before .before .before .loop .inv .0
+same-length c =
+    let at-drain = c .before .before .before .before .before .before .before .before .before .before .before .before in
+    let at-loop = at-drain .before .before .before .before .before .before in
+    c .before .before .drain2 .kept .1 .1 .0 ∙ at-drain .drain .kept .1 .1 .0 ∙ at-loop .loop .inv .0
 
 returns : tie.Need-returns Inv-loop μ-loop
 returns c = search needs
 
 same-length-2 : tie.Need-same-length-2 Inv-loop μ-loop
-same-length-2 c = c .before .before .before .drain .kept .1 .1 .0 ∙ c .before .before .before .before .before .before .before .before .before .loop .inv .0
+same-length-2 c =
+    let at-loop = c .before .before .before .before .before .before .before .before .before in
+    c .before .before .before .drain .kept .1 .1 .0 ∙ at-loop .loop .inv .0
 
 returns-2 : tie.Need-returns-2 Inv-loop μ-loop
 returns-2 c = search needs

@@ -14,8 +14,9 @@ try-at-requires c κs = search needs
 
 add-count : tie.Need-add-count
 add-count c =
+    let at-try-at = c .before .before in
     let k = c .before .before .before in
-    omega (arith, trial-few (k .args .m) (k .args .x .now) (k .args .y .now) (2 * k .args .h) (c .before .before .try-at .result) (c .before .before .try-at .ensures), k .pre .cheap, k .pre .front .rows .few)
+    omega (arith, trial-few (k .args .m) (k .args .x .now) (k .args .y .now) (2 * k .args .h) (at-try-at .try-at .result) (at-try-at .try-at .ensures), k .pre .cheap, k .pre .front .rows .few)
 
 is-empty-requires : tie.Need-is-empty-requires
 is-empty-requires c κs = search needs

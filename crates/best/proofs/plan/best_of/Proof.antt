@@ -24,13 +24,15 @@ accepted c = sym (c .before .before .check-rows .ensures .answer) ∙ c .enum-to
 
 count-levels-requires : tie.Need-count-levels-requires
 count-levels-requires c κs =
-    let a = c .before .before .before .before .args in
+    let at-start = c .before .before .before .before in
+    let a = at-start .args in
     let r = rows-of (a .a .now) (a .b .now) (accepted c) in
     (r .some, r .few)
 
 mul-if1 : tie.Need-mul-if1
 mul-if1 c =
-    let a = c .before .before .before .before .before .args in
+    let at-start = c .before .before .before .before .before in
+    let a = at-start .args in
     let r = rows-of (a .a .now) (a .b .now) (accepted (c .before)) in
     omega (arith, c .count-levels .ensures, few-levels _ (r .some), r .few)
 

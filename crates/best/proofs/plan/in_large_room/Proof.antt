@@ -17,7 +17,8 @@ slice-aggregate-halve-in-4 c = search needs
 
 halve-in-requires : tie.Need-halve-in-requires
 halve-in-requires c κs =
-    let p = c .before .before .before .before .before .before .pre in
+    let at-start = c .before .before .before .before .before .before in
+    let p = at-start .pre in
     (p .0, record { bottom = omega (arith, p .1); top = omega (arith, p .1); halfBottom = omega (arith, p .1); halfTop = omega (arith, p .1) })
 
 same-length : tie.Need-same-length

@@ -84,20 +84,22 @@ is-right-requires c κs = search needs
 
 loop-less : tie.Need-loop-less Inv-loop μ-loop
 loop-less c =
-    let k = c .before .before .before .before .before in
+    let at-misfit-from = c .before .before .before .before in
+    let k = at-misfit-from .before in
     let s = k .before in
     let e = toZ-ofZ w32 (s .args .d) (s .fits .d) in
     let v = rw e at (k .loop .inv) in
-    let n = seek-next (s .args .a .now) (s .args .b .now) (s .args .d) (s .pre) _ _ _ v _ _ (sym (rw e at (c .before .before .before .before .misfit-from .ensures)) ∙ c .before .before .j .given .1) in
+    let n = seek-next (s .args .a .now) (s .args .b .now) (s .args .d) (s .pre) _ _ _ v _ _ (sym (rw e at (at-misfit-from .misfit-from .ensures)) ∙ c .before .before .j .given .1) in
     omega (arith, n .0)
 
 loop-again : tie.Need-loop-again Inv-loop μ-loop
 loop-again c =
-    let k = c .before .before .before .before .before in
+    let at-misfit-from = c .before .before .before .before in
+    let k = at-misfit-from .before in
     let s = k .before in
     let e = toZ-ofZ w32 (s .args .d) (s .fits .d) in
     let v = rw e at (k .loop .inv) in
-    let n = seek-next (s .args .a .now) (s .args .b .now) (s .args .d) (s .pre) _ _ _ v _ _ (sym (rw e at (c .before .before .before .before .misfit-from .ensures)) ∙ c .before .before .j .given .1) in
+    let n = seek-next (s .args .a .now) (s .args .b .now) (s .args .d) (s .pre) _ _ _ v _ _ (sym (rw e at (at-misfit-from .misfit-from .ensures)) ∙ c .before .before .j .given .1) in
     rw (e, c .is-right .ensures) (n .1)
 
 pub seek-least-spec : {M : Type 1} → statement M

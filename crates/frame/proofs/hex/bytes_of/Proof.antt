@@ -16,7 +16,9 @@ abbrev μ-loop : tie.MeasureT-loop
 μ-loop worths n bytes₀ sum₀ i₀ bytes sum i = n - i
 
 loop-holds : tie.Need-loop-holds Inv-loop μ-loop
-loop-holds c = (omega arith, refl, omega arith, lay-start (c .before .before .args .worths .now) (c .before .before .args .bytes .now) (c .before .before .args .n), sum-start (c .before .before .args .worths .now) (c .before .before .args .n))
+loop-holds c =
+    let at-start = c .before .before in
+    (omega arith, refl, omega arith, lay-start (at-start .args .worths .now) (at-start .args .bytes .now) (at-start .args .n), sum-start (at-start .args .worths .now) (at-start .args .n))
 
 mul-b : tie.Need-mul-b Inv-loop μ-loop
 mul-b c = search needs
@@ -25,7 +27,9 @@ shared-slice-read-b : tie.Need-shared-slice-read-b Inv-loop μ-loop
 shared-slice-read-b c = search needs
 
 mul-b-2 : tie.Need-mul-b-2 Inv-loop μ-loop
-mul-b-2 c = let h = c .before .before .before .before .before .pre .2 (2 * c .before .before .loop .i) (omega (arith, c .before .loop-test .taken)) in omega arith
+mul-b-2 c =
+    let at-start = c .before .before .before .before .before in
+    let h = at-start .pre .2 (2 * c .before .before .loop .i) (omega (arith, c .before .loop-test .taken)) in omega arith
 
 mul-b-3 : tie.Need-mul-b-3 Inv-loop μ-loop
 mul-b-3 c = search needs
@@ -37,10 +41,16 @@ shared-slice-read-b-2 : tie.Need-shared-slice-read-b-2 Inv-loop μ-loop
 shared-slice-read-b-2 c = search needs
 
 add-b-2 : tie.Need-add-b-2 Inv-loop μ-loop
-add-b-2 c = let h = c .before .before .before .before .before .before .pre .2 (2 * c .before .before .before .loop .i) (omega (arith, c .before .before .loop-test .taken)) in let g = c .before .before .before .before .before .before .pre .2 (2 * c .before .before .before .loop .i + 1) (omega (arith, c .before .before .loop-test .taken)) in omega arith
+add-b-2 c =
+    let at-loop-test = c .before .before in
+    let at-loop = at-loop-test .before in
+    let at-start = at-loop .before .before .before in
+    let h = at-start .pre .2 (2 * at-loop .loop .i) (omega (arith, at-loop-test .loop-test .taken)) in let g = at-start .pre .2 (2 * at-loop .loop .i + 1) (omega (arith, at-loop-test .loop-test .taken)) in omega arith
 
 slice-write-bytes : tie.Need-slice-write-bytes Inv-loop μ-loop
-slice-write-bytes c = omega (arith, c .before .before .before .loop .inv .1, c .before .before .loop-test .taken, c .before .before .before .before .before .before .pre .1)
+slice-write-bytes c =
+    let at-start = c .before .before .before .before .before .before in
+    omega (arith, c .before .before .before .loop .inv .1, c .before .before .loop-test .taken, at-start .pre .1)
 
 wrapping-add-u8-requires : tie.Need-wrapping-add-u8-requires Inv-loop μ-loop
 wrapping-add-u8-requires c κs = search needs
@@ -52,7 +62,11 @@ loop-less : tie.Need-loop-less Inv-loop μ-loop
 loop-less c = search needs
 
 loop-again : tie.Need-loop-again Inv-loop μ-loop
-loop-again c = (omega (arith, c .before .before .before .loop-test .taken), simp length-set (c .before .before .before .before .loop .inv .1), omega (arith, c .wrapping-add-u8 .ensures), lay-more _ _ _ _ _ _ (c .before .before .before .loop-test .taken) (omega (arith, c .before .before .before .before .loop .inv .1, c .before .before .before .loop-test .taken, c .before .before .before .before .before .before .before .pre .1)) refl (c .before .before .before .before .loop .inv .3), sum-more _ _ _ _ _ _ _ (c .before .before .before .loop-test .taken) refl (c .wrapping-add-u8 .ensures) (c .before .before .before .before .loop .inv .4))
+loop-again c =
+    let at-loop-test = c .before .before .before in
+    let at-loop = at-loop-test .before in
+    let at-start = at-loop .before .before .before in
+    (omega (arith, at-loop-test .loop-test .taken), simp length-set (at-loop .loop .inv .1), omega (arith, c .wrapping-add-u8 .ensures), lay-more _ _ _ _ _ _ (at-loop-test .loop-test .taken) (omega (arith, at-loop .loop .inv .1, at-loop-test .loop-test .taken, at-start .pre .1)) refl (at-loop .loop .inv .3), sum-more _ _ _ _ _ _ _ (at-loop-test .loop-test .taken) refl (c .wrapping-add-u8 .ensures) (at-loop .loop .inv .4))
 
 same-length : tie.Need-same-length Inv-loop μ-loop
 same-length c = c .before .loop .inv .1

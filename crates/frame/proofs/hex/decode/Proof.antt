@@ -14,16 +14,25 @@ slice-aggregate-bytes-of : tie.Need-slice-aggregate-bytes-of
 slice-aggregate-bytes-of c = search needs
 
 bytes-of-requires : tie.Need-bytes-of-requires
-bytes-of-requires c κs = (omega (arith, c .before .before .before .before .before .before .before .before .pre), omega (arith, c .before .before .before .before .before .before .before .before .pre), worths-small _ _ _ _ (c .before .before .before .before .worths-of .ensures) (c .before .before .if1 .taken) (omega (arith, c .before .before .before .before .before .before .before .before .pre)))
+bytes-of-requires c κs =
+    let at-worths-of = c .before .before .before .before in
+    let at-start = at-worths-of .before .before .before .before in
+    (omega (arith, at-start .pre), omega (arith, at-start .pre), worths-small _ _ _ _ (at-worths-of .worths-of .ensures) (c .before .before .if1 .taken) (omega (arith, at-start .pre)))
 
 same-length : tie.Need-same-length
 same-length c = search needs
 
 returns : tie.Need-returns
-returns c = decoded _ _ _ _ _ (c .before .before .before .before .before .before .before .before .before .before .before .pre .0) (c .before .before .before .before .before .before .before .worths-of .ensures) (c .before .before .before .before .before .if1 .taken) (c .before .before .bytes-of .ensures)
+returns c =
+    let at-if1 = c .before .before .before .before .before in
+    let at-worths-of = at-if1 .before .before in
+    let at-start = at-worths-of .before .before .before .before in
+    decoded _ _ _ _ _ (at-start .pre .0) (at-worths-of .worths-of .ensures) (at-if1 .if1 .taken) (c .before .before .bytes-of .ensures)
 
 returns-2 : tie.Need-returns-2
-returns-2 c = undecoded _ _ _ _ (c .before .before .before .before .before .before .pre .0) (c .before .before .worths-of .ensures) (c .if1 .left)
+returns-2 c =
+    let at-start = c .before .before .before .before .before .before in
+    undecoded _ _ _ _ (at-start .pre .0) (c .before .before .worths-of .ensures) (c .if1 .left)
 
 pub decode-spec : {M : Type 1} → statement M
 decode-spec =

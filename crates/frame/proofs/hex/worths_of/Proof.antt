@@ -23,7 +23,10 @@ digit-requires : tie.Need-digit-requires Inv-loop μ-loop
 digit-requires c κs = search needs
 
 slice-write-worths : tie.Need-slice-write-worths Inv-loop μ-loop
-slice-write-worths c = omega (arith, c .before .before .before .loop .inv .0, c .before .before .before .loop .inv .1 .within, c .before .before .before .before .before .before .pre)
+slice-write-worths c =
+    let at-loop = c .before .before .before in
+    let at-start = at-loop .before .before .before in
+    omega (arith, at-loop .loop .inv .0, at-loop .loop .inv .1 .within, at-start .pre)
 
 larger-requires : tie.Need-larger-requires Inv-loop μ-loop
 larger-requires c κs = search needs
@@ -35,7 +38,11 @@ loop-less : tie.Need-loop-less Inv-loop μ-loop
 loop-less c = search needs
 
 loop-again : tie.Need-loop-again Inv-loop μ-loop
-loop-again c = (simp length-set (c .before .before .before .before .loop .inv .0), worths-more _ _ _ _ _ _ (c .before .before .before .loop-test .taken) (omega (arith, c .before .before .before .before .loop .inv .0, c .before .before .before .loop-test .taken, c .before .before .before .before .before .before .before .pre)) (c .before .digit .ensures) (c .larger .ensures) (c .before .before .before .before .loop .inv .1))
+loop-again c =
+    let at-loop-test = c .before .before .before in
+    let at-loop = at-loop-test .before in
+    let at-start = at-loop .before .before .before in
+    (simp length-set (at-loop .loop .inv .0), worths-more _ _ _ _ _ _ (at-loop-test .loop-test .taken) (omega (arith, at-loop .loop .inv .0, at-loop-test .loop-test .taken, at-start .pre)) (c .before .digit .ensures) (c .larger .ensures) (at-loop .loop .inv .1))
 
 same-length : tie.Need-same-length Inv-loop μ-loop
 same-length c = c .before .loop .inv .0

@@ -18,13 +18,21 @@ same-length : tie.Need-same-length
 same-length c = search needs
 
 returns : tie.Need-returns
-returns c = bottom-in _ _ (c .before .before .before .before .before .before .before .before .before .pre .0) (c .before .before .before .before .before .before .before .before .before .pre .1) (c .before .before .before .before .before .before .before .before .before .pre .2) (c .before .before .before .before .before .before .if1 .taken) _ _ _ _ (c .before .before .fill .ensures) (c .before .before .before .before .if2 .taken) (c .if3 .taken)
+returns c =
+    let at-if2 = c .before .before .before .before in
+    let at-if1 = at-if2 .before .before in
+    let at-start = at-if1 .before .before .before in
+    bottom-in _ _ (at-start .pre .0) (at-start .pre .1) (at-start .pre .2) (at-if1 .if1 .taken) _ _ _ _ (c .before .before .fill .ensures) (at-if2 .if2 .taken) (c .if3 .taken)
 
 same-length-2 : tie.Need-same-length-2
 same-length-2 c = search needs
 
 returns-2 : tie.Need-returns-2
-returns-2 c = bad-in _ _ _ (not-filled _ _ (c .before .before .before .before .before .before .before .before .before .pre .0) (c .before .before .before .before .before .before .before .before .before .pre .1) (c .before .before .before .before .before .before .before .before .before .pre .2) (c .before .before .before .before .before .before .if1 .taken) _ _ _ _ (c .before .before .fill .ensures) (c .if3 .left)) (c .before .before .fill .ensures .not (c .if3 .left) .0)
+returns-2 c =
+    let at-fill = c .before .before in
+    let at-if1 = at-fill .before .before .before .before in
+    let at-start = at-if1 .before .before .before in
+    bad-in _ _ _ (not-filled _ _ (at-start .pre .0) (at-start .pre .1) (at-start .pre .2) (at-if1 .if1 .taken) _ _ _ _ (at-fill .fill .ensures) (c .if3 .left)) (at-fill .fill .ensures .not (c .if3 .left) .0)
 
 fill-requires-2 : tie.Need-fill-requires-2
 fill-requires-2 c κs = search needs
@@ -33,16 +41,26 @@ same-length-3 : tie.Need-same-length-3
 same-length-3 c = search needs
 
 returns-3 : tie.Need-returns-3
-returns-3 c = top-in _ _ (c .before .before .before .before .before .before .before .before .before .before .pre .0) (c .before .before .before .before .before .before .before .before .before .before .pre .1) (c .before .before .before .before .before .before .before .before .before .before .pre .2) (c .before .before .before .before .before .before .before .if1 .taken) _ _ _ _ (c .before .before .fill2 .ensures) (c .before .before .before .before .if4 .taken) (c .if5 .taken)
+returns-3 c =
+    let at-if4 = c .before .before .before .before in
+    let at-if1 = at-if4 .before .before .before in
+    let at-start = at-if1 .before .before .before in
+    top-in _ _ (at-start .pre .0) (at-start .pre .1) (at-start .pre .2) (at-if1 .if1 .taken) _ _ _ _ (c .before .before .fill2 .ensures) (at-if4 .if4 .taken) (c .if5 .taken)
 
 same-length-4 : tie.Need-same-length-4
 same-length-4 c = search needs
 
 returns-4 : tie.Need-returns-4
-returns-4 c = bad-in _ _ _ (not-filled _ _ (c .before .before .before .before .before .before .before .before .before .before .pre .0) (c .before .before .before .before .before .before .before .before .before .before .pre .1) (c .before .before .before .before .before .before .before .before .before .before .pre .2) (c .before .before .before .before .before .before .before .if1 .taken) _ _ _ _ (c .before .before .fill2 .ensures) (c .if5 .left)) (c .before .before .fill2 .ensures .not (c .if5 .left) .0)
+returns-4 c =
+    let at-fill2 = c .before .before in
+    let at-if1 = at-fill2 .before .before .before .before .before in
+    let at-start = at-if1 .before .before .before in
+    bad-in _ _ _ (not-filled _ _ (at-start .pre .0) (at-start .pre .1) (at-start .pre .2) (at-if1 .if1 .taken) _ _ _ _ (at-fill2 .fill2 .ensures) (c .if5 .left)) (at-fill2 .fill2 .ensures .not (c .if5 .left) .0)
 
 returns-5 : tie.Need-returns-5
-returns-5 c = bad-in _ _ _ (no-row _ _ (c .before .before .before .before .before .before .pre .0) (c .before .if2 .left) (c .if4 .left)) refl
+returns-5 c =
+    let at-start = c .before .before .before .before .before .before in
+    bad-in _ _ _ (no-row _ _ (at-start .pre .0) (c .before .if2 .left) (c .if4 .left)) refl
 
 returns-6 : tie.Need-returns-6
 returns-6 c = bad-in _ _ _ (no-one _ (c .if1 .left)) refl

@@ -32,7 +32,9 @@ mul-t9 : tie.Need-mul-t9 Inv-loop μ-loop
 mul-t9 c = search needs
 
 slice-set-from-columns : tie.Need-slice-set-from-columns Inv-loop μ-loop
-slice-set-from-columns c = omega (arith, c .before .before .loop .inv, c .before .before .before .before .pre)
+slice-set-from-columns c =
+    let at-start = c .before .before .before .before in
+    omega (arith, c .before .before .loop .inv, at-start .pre)
 
 add-j : tie.Need-add-j Inv-loop μ-loop
 add-j c = search needs

@@ -9,7 +9,9 @@ slice-aggregate-decode : tie.Need-slice-aggregate-decode
 slice-aggregate-decode c = search needs
 
 decode-requires : tie.Need-decode-requires
-decode-requires c κs = (omega (arith, c .before .before .pre), omega (arith, c .before .before .pre), refl)
+decode-requires c κs =
+    let at-start = c .before .before in
+    (omega (arith, at-start .pre), omega (arith, at-start .pre), refl)
 
 slice-aggregate-byte-at : tie.Need-slice-aggregate-byte-at
 slice-aggregate-byte-at c = search needs
@@ -36,10 +38,21 @@ same-length : tie.Need-same-length
 same-length c = search needs
 
 returns : tie.Need-returns
-returns c = filled _ _ _ (c .before .before .before .before .before .before .before .before .before .before .before .decode .ensures) _ _ (c .before .before .before .before .before .before .before .before .before .before .before .before .before .before .pre .0) (c .before .before .before .before .before .before .before .before .before .if1 .taken) _ _ (c .before .before .before .before .before .before .before .byte-at .ensures) (c .before .before .before .before .before .byte-at2 .ensures) (c .before .before .before .before .if2 .taken) _ (c .before .copy .ensures)
+returns c =
+    let at-if2 = c .before .before .before .before in
+    let at-byte-at2 = at-if2 .before in
+    let at-byte-at = at-byte-at2 .before .before in
+    let at-if1 = at-byte-at .before .before in
+    let at-decode = at-if1 .before .before in
+    let at-start = at-decode .before .before .before in
+    filled _ _ _ (at-decode .decode .ensures) _ _ (at-start .pre .0) (at-if1 .if1 .taken) _ _ (at-byte-at .byte-at .ensures) (at-byte-at2 .byte-at2 .ensures) (at-if2 .if2 .taken) _ (c .before .copy .ensures)
 
 returns-2 : tie.Need-returns-2
-returns-2 c = not-said _ _ _ (c .before .before .before .before .before .before .before .decode .ensures) _ _ (c .before .before .before .before .before .before .before .before .before .before .pre .0) (c .before .before .before .before .before .if1 .taken) _ (c .before .byte-at2 .ensures) (c .if2 .left)
+returns-2 c =
+    let at-if1 = c .before .before .before .before .before in
+    let at-decode = at-if1 .before .before in
+    let at-start = at-decode .before .before .before in
+    not-said _ _ _ (at-decode .decode .ensures) _ _ (at-start .pre .0) (at-if1 .if1 .taken) _ (c .before .byte-at2 .ensures) (c .if2 .left)
 
 returns-3 : tie.Need-returns-3
 returns-3 c = not-sound _ _ _ (c .before .before .decode .ensures) _ _ (c .if1 .left)

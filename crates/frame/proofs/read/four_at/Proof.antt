@@ -59,7 +59,9 @@ signed-requires : tie.Need-signed-requires
 signed-requires c κs = search needs
 
 returns : tie.Need-returns
-returns c = back (c .signed .result) (c .signed .ok) ∙ c .signed .ensures ∙ simp (c .before .before .before .before .byte-at .ensures, c .before .before .before .byte-at2 .ensures, c .before .before .byte-at3 .ensures, c .before .byte-at4 .ensures)
+returns c =
+    let at-byte-at = c .before .before .before .before in
+    back (c .signed .result) (c .signed .ok) ∙ c .signed .ensures ∙ simp (at-byte-at .byte-at .ensures, c .before .before .before .byte-at2 .ensures, c .before .before .byte-at3 .ensures, c .before .byte-at4 .ensures)
 
 pub four-at-spec : {M : Type 1} → statement M
 four-at-spec =

@@ -17,7 +17,9 @@ slice-aggregate-decode : tie.Need-slice-aggregate-decode
 slice-aggregate-decode c = search needs
 
 decode-requires : tie.Need-decode-requires
-decode-requires c κs = (omega (arith, c .before .before .before .before .before .before .pre), omega (arith, c .before .before .before .before .before .before .pre), refl)
+decode-requires c κs =
+    let at-start = c .before .before .before .before .before .before in
+    (omega (arith, at-start .pre), omega (arith, at-start .pre), refl)
 
 slice-aggregate-byte-at : tie.Need-slice-aggregate-byte-at
 slice-aggregate-byte-at c = search needs
@@ -47,13 +49,23 @@ four-at-requires : tie.Need-four-at-requires
 four-at-requires c κs = search needs
 
 returns : tie.Need-returns
-returns c = header-in _ _ _ (c .before .before .before .before .before .before .before .before .before .before .decode .ensures) (c .before .before .before .before .before .before .before .before .if3 .taken) (c .before .before .before .before .before .before .before .before .before .before .before .before .before .before .if1 .taken) (c .before .before .before .before .before .before .before .before .before .before .before .before .if2 .taken) (c .before .before .before .before .before .before .before .before .before .before .before .before .before .before .before .before .before .pre) _ _ _ _ (c .before .before .before .before .before .before .byte-at .ensures) (c .before .before .before .before .two-at .ensures .0) (c .before .before .two-at2 .ensures .0) (back (c .four-at .result) (c .four-at .ok) ∙ c .four-at .ensures)
+returns c =
+    let at-two-at = c .before .before .before .before in
+    let at-byte-at = at-two-at .before .before in
+    let at-if3 = at-byte-at .before .before in
+    let at-decode = at-if3 .before .before in
+    let at-if2 = at-decode .before .before in
+    let at-if1 = at-if2 .before .before in
+    let at-start = at-if1 .before .before .before in
+    header-in _ _ _ (at-decode .decode .ensures) (at-if3 .if3 .taken) (at-if1 .if1 .taken) (at-if2 .if2 .taken) (at-start .pre) _ _ _ _ (at-byte-at .byte-at .ensures) (at-two-at .two-at .ensures .0) (c .before .before .two-at2 .ensures .0) (back (c .four-at .result) (c .four-at .ok) ∙ c .four-at .ensures)
 
 returns-2 : tie.Need-returns-2
 returns-2 c = ap saidOf (sym (unsound-bad _ (sym (c .before .before .decode .ensures .sound) ∙ c .if3 .left)))
 
 returns-3 : tie.Need-returns-3
-returns-3 c = ap saidOf (sym (no-zero _ (c .before .before .before .before .before .pre) (c .if2 .left)))
+returns-3 c =
+    let at-start = c .before .before .before .before .before in
+    ap saidOf (sym (no-zero _ (at-start .pre) (c .if2 .left)))
 
 returns-4 : tie.Need-returns-4
 returns-4 c = ap saidOf (sym (no-one _ (c .if1 .left)))

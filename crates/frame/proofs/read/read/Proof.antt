@@ -22,7 +22,10 @@ read-text-requires : tie.Need-read-text-requires
 read-text-requires c κs = search needs
 
 returns-2 : tie.Need-returns-2
-returns-2 c = read-as _ _ _ _ _ (fed-is (c .before .before .before .before .before .before .before .args .line .now) _ (c .before .before .before .before .before .if1 .left) refl (c .before .before .before .if2 .taken)) (c .read-text .ensures)
+returns-2 c =
+    let at-if1 = c .before .before .before .before .before in
+    let at-start = at-if1 .before .before in
+    read-as _ _ _ _ _ (fed-is (at-start .args .line .now) _ (at-if1 .if1 .left) refl (c .before .before .before .if2 .taken)) (c .read-text .ensures)
 
 returns-3 : tie.Need-returns-3
 returns-3 c = bad-read _ _ (unfed-is _ _ (c .before .before .if1 .left) refl (c .if2 .left))

@@ -15,7 +15,9 @@ sub-carrier : tie.Need-sub-carrier
 sub-carrier c = search needs
 
 carrier-requires : tie.Need-carrier-requires
-carrier-requires c κs = (omega arith, omega arith, omega arith, c .before .before .before .before .before .before .pre)
+carrier-requires c κs =
+    let at-start = c .before .before .before .before .before .before in
+    (omega arith, omega arith, omega arith, at-start .pre)
 
 same-length : tie.Need-same-length
 same-length c = search needs

@@ -19,7 +19,9 @@ enum-known-r : tie.Need-enum-known-r
 enum-known-r c = search needs
 
 returns : tie.Need-returns
-returns c = offset-check _ _ _ _ (or-second _ _ _ (sym (c .before .before .before .check-rows .ensures .answer) ∙ c .before .enum-told .given .1) (rw (toZ-ofZ w32 (c .before .before .before .before .args .d) (c .before .before .before .before .fits .d)) at (c .offset-fault .ensures)))
+returns c =
+    let at-start = c .before .before .before .before in
+    offset-check _ _ _ _ (or-second _ _ _ (sym (c .before .before .before .check-rows .ensures .answer) ∙ c .before .enum-told .given .1) (rw (toZ-ofZ w32 (at-start .args .d) (at-start .fits .d)) at (c .offset-fault .ensures)))
 
 returns-2 : tie.Need-returns-2
 returns-2 c = offset-check _ _ _ _ (or-first _ _ _ (sym (c .before .before .before .check-rows .ensures .answer) ∙ c .before .r .given .1))

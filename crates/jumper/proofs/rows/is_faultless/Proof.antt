@@ -34,11 +34,12 @@ returns-3 c = untrue
 
 returns-4 : tie.Need-returns-4
 returns-4 c =
-    let k = c .before .before .before .before .before in
+    let at-if1 = c .before .before .before .before in
+    let k = at-if1 .before in
     let a = k .before .args .a .now in
     let low = rw (back (pad a 0) (c .before .before .before .if22 .given)) at (c .before .before .if2 .left) in
     let high = rw (back (pad a (length a - 1)) (c .before .if32 .given)) at (c .if3 .left) in
-    λ e. sound-row a (k .before .pre .0) (k .falls .ensures (c .before .before .before .before .if1 .left)) (false-lt _ _ low) (false-lt _ _ high)
+    λ e. sound-row a (k .before .pre .0) (k .falls .ensures (at-if1 .if1 .left)) (false-lt _ _ low) (false-lt _ _ high)
 
 pub is-faultless-spec : {M : Type 1} → statement M
 is-faultless-spec =

@@ -29,13 +29,15 @@ plan-best-requires c κs = search needs
 
 returns : tie.Need-returns
 returns c =
-    let d = back (c .before .before .wish .given .0 .1 .0) (c .before .known-told .given .1 .0 .1) in
-    rw (c .before .before .wish .given .1) (rw d at (c .plan-fit .ensures))
+    let at-wish = c .before .before in
+    let d = back (at-wish .wish .given .0 .1 .0) (c .before .known-told .given .1 .0 .1) in
+    rw (at-wish .wish .given .1) (rw d at (c .plan-fit .ensures))
 
 returns-2 : tie.Need-returns-2
 returns-2 c =
-    let d = back (c .before .before .wish2 .given .0 .0) (c .before .known-told2 .given .0 .1) in
-    rw (c .before .before .wish2 .given .1) (rw d at (c .plan-least .ensures))
+    let at-wish2 = c .before .before in
+    let d = back (at-wish2 .wish2 .given .0 .0) (c .before .known-told2 .given .0 .1) in
+    rw (at-wish2 .wish2 .given .1) (rw d at (c .plan-least .ensures))
 
 returns-3 : tie.Need-returns-3
 returns-3 c =

@@ -25,14 +25,17 @@ numbers-requires c κs = search needs
 
 returns : tie.Need-returns
 returns c =
-    let p = c .before .before .before .before .before .p .given .0 .0 in
+    let at-p = c .before .before .before .before .before in
+    let at-best-of = at-p .before .before .before in
+    let p = at-p .p .given .0 .0 in
     let low = back (p .range .low) (c .before .before .struct-told .given .0 .1) in
     let high = back (p .range .high) (c .before .struct-told2 .given .1 .0 .1) in
-    rw (rw (low, high) at (c .planned .ensures)) (best-plan _ _ _ _ _ refl (rw (c .before .before .before .before .before .p .given .1) at (c .before .before .before .before .before .before .before .before .best-of .ensures)))
+    rw (rw (low, high) at (c .planned .ensures)) (best-plan _ _ _ _ _ refl (rw (at-p .p .given .1) at (at-best-of .best-of .ensures)))
 
 returns-2 : tie.Need-returns-2
 returns-2 c =
-    rw (c .numbers .ensures) (best-plan _ _ _ _ _ refl (rw (c .before .before .r .given .1) at (c .before .before .before .before .before .best-of .ensures)))
+    let at-best-of = c .before .before .before .before .before in
+    rw (c .numbers .ensures) (best-plan _ _ _ _ _ refl (rw (c .before .before .r .given .1) at (at-best-of .best-of .ensures)))
 
 pub plan-best-spec : {M : Type 1} → statement M
 plan-best-spec =

@@ -28,9 +28,10 @@ returns c =
 
 returns-2 : tie.Need-returns-2
 returns-2 c =
-    let s = c .before .before .before .before .before in
+    let at-fit = c .before .before .before .before in
+    let s = at-fit .before in
     let e = toZ-ofZ w32 (s .args .d) (s .fits .d) in
-    rw (c .numbers .ensures) (fit-plan _ _ _ _ _ (rw (c .before .before .r .given .1, e) at (c .before .before .before .before .fit .ensures)))
+    rw (c .numbers .ensures) (fit-plan _ _ _ _ _ (rw (c .before .before .r .given .1, e) at (at-fit .fit .ensures)))
 
 pub plan-fit-spec : {M : Type 1} → statement M
 plan-fit-spec =

@@ -37,15 +37,17 @@ returns c =
 
 returns-2 : tie.Need-returns-2
 returns-2 c =
-    let s = c .before .before .before .before .before .before in
+    let at-least-at = c .before .before .before .before .before in
+    let s = at-least-at .before in
     let e = toZ-ofZ w32 (s .args .d) (s .fits .d) in
-    rw (rw (e, c .before .number .ensures) at (c .planned2 .ensures)) (least-plan _ _ _ _ (rw (c .before .before .before .s .given .1, e) at (c .before .before .before .before .before .least-at .ensures)))
+    rw (rw (e, c .before .number .ensures) at (c .planned2 .ensures)) (least-plan _ _ _ _ (rw (c .before .before .before .s .given .1, e) at (at-least-at .least-at .ensures)))
 
 returns-3 : tie.Need-returns-3
 returns-3 c =
-    let s = c .before .before .before .before .before in
+    let at-least-at = c .before .before .before .before in
+    let s = at-least-at .before in
     let e = toZ-ofZ w32 (s .args .d) (s .fits .d) in
-    rw (c .numbers .ensures) (least-plan _ _ _ _ (rw (c .before .before .r .given .1, e) at (c .before .before .before .before .least-at .ensures)))
+    rw (c .numbers .ensures) (least-plan _ _ _ _ (rw (c .before .before .r .given .1, e) at (at-least-at .least-at .ensures)))
 
 pub plan-least-spec : {M : Type 1} → statement M
 plan-least-spec =

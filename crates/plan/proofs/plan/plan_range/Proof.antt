@@ -21,14 +21,17 @@ numbers-requires c κs = search needs
 
 returns : tie.Need-returns
 returns c =
-    let r = c .before .before .before .before .r .given .0 .0 in
+    let at-r = c .before .before .before .before in
+    let at-range-at = at-r .before .before in
+    let r = at-r .r .given .0 .0 in
     let low = back (r .low) (c .before .before .struct-told .given .0 .1) in
     let high = back (r .high) (c .before .struct-told2 .given .1 .0 .1) in
-    rw (rw (low, high) at (c .planned .ensures)) (range-plan _ _ _ _ (rw (c .before .before .before .before .r .given .1) at (c .before .before .before .before .before .before .range-at .ensures)))
+    rw (rw (low, high) at (c .planned .ensures)) (range-plan _ _ _ _ (rw (at-r .r .given .1) at (at-range-at .range-at .ensures)))
 
 returns-2 : tie.Need-returns-2
 returns-2 c =
-    rw (c .numbers .ensures) (range-plan _ _ _ _ (rw (c .before .before .r2 .given .1) at (c .before .before .before .before .range-at .ensures)))
+    let at-range-at = c .before .before .before .before in
+    rw (c .numbers .ensures) (range-plan _ _ _ _ (rw (c .before .before .r2 .given .1) at (at-range-at .range-at .ensures)))
 
 pub plan-range-spec : {M : Type 1} → statement M
 plan-range-spec =

@@ -27,9 +27,9 @@ differs-requires c κs = search needs
 
 returns : tie.Need-returns
 returns c =
+    let d = c .before .before .before .before in
     let x = c .before .before .column-in in
     let y = c .before .top-pad in
-    let d = c .before .before .before .before in
     let s = d .args in
     let ex = toZ-ofZ w32 (x .result) (sfits-of (x .ok)) ∙ x .ensures in
     let ey = toZ-ofZ w32 (y .result) (sfits-of (y .ok)) ∙ y .ensures in

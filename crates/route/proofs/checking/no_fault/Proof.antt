@@ -33,7 +33,9 @@ add-i : tie.Need-add-i Inv-loop μ-loop
 add-i c = search needs
 
 loop-less : tie.Need-loop-less Inv-loop μ-loop
-loop-less c = omega (arith, c .before .before .before .before .pre .0 .rows .some)
+loop-less c =
+    let at-start = c .before .before .before .before in
+    omega (arith, at-start .pre .0 .rows .some)
 
 loop-again : tie.Need-loop-again Inv-loop μ-loop
 loop-again c =

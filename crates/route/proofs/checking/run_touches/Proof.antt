@@ -34,9 +34,10 @@ rightmost-of-requires c κs =
 
 returns : tie.Need-returns
 returns c =
+    let at-start = c .before .before .before .before in
     let x = c .before .leftmost-of in
     let y = c .rightmost-of in
-    let s = c .before .before .before .before .args in
+    let s = at-start .args in
     let ex = toZ-ofZ w32 (x .result) (sfits-of (x .ok)) ∙ x .ensures in
     let ey = toZ-ofZ w32 (y .result) (sfits-of (y .ok)) ∙ y .ensures in
     rw (ex, ey) (sym (touches-here (s .n) (s .s) (pad (s .table .now)) (pad (s .table .now)) (columnIn (s .table .now) (s .s)) (s .t) (s .i) (omega arith) (c .before .before .if2 .taken)))

@@ -29,8 +29,8 @@ differs-requires c κs = search needs
 
 returns : tie.Need-returns
 returns c =
-    let x = c .before .before .column-in in
     let d = c .before .before .before .before in
+    let x = c .before .before .column-in in
     let s = d .args in
     let ex = toZ-ofZ w32 (x .result) (sfits-of (x .ok)) ∙ x .ensures in
     let ey = back (pad (s .a .now) (s .i)) (c .before .differs-arg .given) in

@@ -64,12 +64,13 @@ loop-less c = search needs
 
 loop-again : tie.Need-loop-again Inv-loop μ-loop
 loop-again c =
-    let l = c .before .before .before .before .before .before in
+    let at-touch-arg = c .before .before .before .before in
+    let l = at-touch-arg .before .before in
     let s = l .before .args in
     let p = pad (s .p .now) in
     let q = pad (s .q .now) in
     let t = l .loop .t in
-    let e0 = back (p t) (c .before .before .before .before .touch-arg .given) in
+    let e0 = back (p t) (at-touch-arg .touch-arg .given) in
     let e1 = back (p (t + 1)) (c .before .before .before .touch-arg2 .given) in
     let e2 = back (q t) (c .before .before .touch-arg3 .given) in
     let e3 = back (q (t + 1)) (c .before .touch-arg4 .given) in (

@@ -24,12 +24,16 @@ same-length c = search needs
 
 returns : tie.Need-returns
 returns c =
-    let e = toZ-ofZ w32 (c .before .before .before .before .before .before .before .before .args .d) (c .before .before .before .before .before .before .before .before .fits .d) in
-    asked-route _ _ _ _ _ _ _ _ _ _ (rw e at (c .before .before .before .before .before .before .check-asked .ensures .answer)) _ _ _ _ (c .before .before .before .before .enum-told .given .1) (rw e at (c .before .before .give-wires .ensures))
+    let at-enum-told = c .before .before .before .before in
+    let at-check-asked = at-enum-told .before .before in
+    let at-start = at-check-asked .before .before in
+    let e = toZ-ofZ w32 (at-start .args .d) (at-start .fits .d) in
+    asked-route _ _ _ _ _ _ _ _ _ _ (rw e at (at-check-asked .check-asked .ensures .answer)) _ _ _ _ (at-enum-told .enum-told .given .1) (rw e at (c .before .before .give-wires .ensures))
 
 returns-2 : tie.Need-returns-2
 returns-2 c =
-    let e = toZ-ofZ w32 (c .before .before .before .before .args .d) (c .before .before .before .before .fits .d) in
+    let at-start = c .before .before .before .before in
+    let e = toZ-ofZ w32 (at-start .args .d) (at-start .fits .d) in
     unasked-route _ _ _ _ _ _ _ _ _ _ (rw e at (c .before .before .check-asked .ensures .answer)) _ (c .enum-told2 .given .1)
 
 pub give-moves-spec : {M : Type 1} → statement M

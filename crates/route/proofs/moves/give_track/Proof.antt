@@ -16,22 +16,30 @@ same-length : tie.Need-same-length
 same-length c = search needs
 
 returns : tie.Need-returns
-returns c = track-full (c .before .before .before .before .before .before .before .before .before .before .args .m) (c .before .before .before .before .before .before .before .before .before .before .args .out .now) (c .before .before .before .before .before .before .before .before .before .before .args .at) _ _ (c .before .before .before .put-move .ensures) (c .if2 .taken)
+returns c =
+    let at-start = c .before .before .before .before .before .before .before .before .before .before in
+    track-full (at-start .args .m) (at-start .args .out .now) (at-start .args .at) _ _ (c .before .before .before .put-move .ensures) (c .if2 .taken)
 
 same-length-2 : tie.Need-same-length-2
 same-length-2 c = search needs
 
 returns-2 : tie.Need-returns-2
 returns-2 c =
-    let e1 = toZ-ofZ w32 (c .before .before .before .before .before .before .before .before .before .before .args .m .from) (record { sfits = c .before .before .before .before .before .before .before .before .struct-told .given .1 .1 .1 .0 .1 }) in
-    let e2 = toZ-ofZ w32 (c .before .before .before .before .before .before .before .before .before .before .args .m .to) (record { sfits = c .before .before .before .before .before .before .before .struct-told2 .given .1 .1 .1 .1 .0 .1 }) in
-    track-put (c .before .before .before .before .before .before .before .before .before .before .args .m) (c .before .before .before .before .before .before .before .before .before .before .args .out .now) (c .before .before .before .before .before .before .before .before .before .before .args .at) _ _ (c .before .before .before .put-move .ensures) (c .if2 .left) (sym (rw (e1, e2) at (c .before .before .before .before .before .before .differs .ensures)) ∙ c .before .before .before .before .before .if1 .taken)
+    let at-if1 = c .before .before .before .before .before in
+    let at-differs = at-if1 .before in
+    let at-struct-told2 = at-differs .before in
+    let at-struct-told = at-struct-told2 .before in
+    let at-start = at-struct-told .before .before in
+    let e1 = toZ-ofZ w32 (at-start .args .m .from) (record { sfits = at-struct-told .struct-told .given .1 .1 .1 .0 .1 }) in
+    let e2 = toZ-ofZ w32 (at-start .args .m .to) (record { sfits = at-struct-told2 .struct-told2 .given .1 .1 .1 .1 .0 .1 }) in
+    track-put (at-start .args .m) (at-start .args .out .now) (at-start .args .at) _ _ (c .before .before .before .put-move .ensures) (c .if2 .left) (sym (rw (e1, e2) at (at-differs .differs .ensures)) ∙ at-if1 .if1 .taken)
 
 returns-3 : tie.Need-returns-3
 returns-3 c =
-    let e1 = toZ-ofZ w32 (c .before .before .before .before .before .args .m .from) (record { sfits = c .before .before .before .struct-told .given .1 .1 .1 .0 .1 }) in
-    let e2 = toZ-ofZ w32 (c .before .before .before .before .before .args .m .to) (record { sfits = c .before .before .struct-told2 .given .1 .1 .1 .1 .0 .1 }) in
-    track-none (c .before .before .before .before .before .args .m) (c .before .before .before .before .before .args .out .now) (c .before .before .before .before .before .args .at) (sym (rw (e1, e2) at (c .before .differs .ensures)) ∙ c .if1 .left)
+    let at-start = c .before .before .before .before .before in
+    let e1 = toZ-ofZ w32 (at-start .args .m .from) (record { sfits = c .before .before .before .struct-told .given .1 .1 .1 .0 .1 }) in
+    let e2 = toZ-ofZ w32 (at-start .args .m .to) (record { sfits = c .before .before .struct-told2 .given .1 .1 .1 .1 .0 .1 }) in
+    track-none (at-start .args .m) (at-start .args .out .now) (at-start .args .at) (sym (rw (e1, e2) at (c .before .differs .ensures)) ∙ c .if1 .left)
 
 pub give-track-spec : {M : Type 1} → statement M
 give-track-spec =

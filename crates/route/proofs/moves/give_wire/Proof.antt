@@ -29,7 +29,9 @@ returns : tie.Need-returns Inv-loop μ-loop
 returns c = record { gave = refl; fits = (λ h. h); far = λ h. absurd (omega (arith, c .if1 .taken)) }
 
 top-pad-requires : tie.Need-top-pad-requires Inv-loop μ-loop
-top-pad-requires c κs = let q = c .before .before .pre in let e = toZ-ofZ w32 (c .before .before .args .d) (c .before .before .fits .d) in rw e (q .0 .rows .top, q .0 .offset, omega (arith, q .1, q .0 .rows .equal))
+top-pad-requires c κs =
+    let at-start = c .before .before in
+    let q = at-start .pre in let e = toZ-ofZ w32 (at-start .args .d) (at-start .fits .d) in rw e (q .0 .rows .top, q .0 .offset, omega (arith, q .1, q .0 .rows .equal))
 
 column-requires : tie.Need-column-requires Inv-loop μ-loop
 column-requires c κs = let q = c .before .before .before .pre in (q .0 .rows .bottom, q .1, omega (arith, q .0 .tracks, c .before .if1 .left))
@@ -43,49 +45,69 @@ differs-requires : tie.Need-differs-requires Inv-loop μ-loop
 differs-requires c κs = search needs
 
 add-column : tie.Need-add-column Inv-loop μ-loop
-add-column c = omega (arith, c .before .before .loop-test .taken, c .before .before .before .before .before .before .before .before .pre .0 .tracks)
+add-column c =
+    let at-start = c .before .before .before .before .before .before .before .before in
+    omega (arith, c .before .before .loop-test .taken, at-start .pre .0 .tracks)
 
 column-requires-2 : tie.Need-column-requires-2 Inv-loop μ-loop
-column-requires-2 c κs = let q = c .before .before .before .before .before .before .before .before .pre in (q .0 .rows .bottom, q .1, omega (arith, q .0 .tracks, c .before .before .loop-test .taken))
+column-requires-2 c κs =
+    let at-start = c .before .before .before .before .before .before .before .before in
+    let q = at-start .pre in (q .0 .rows .bottom, q .1, omega (arith, q .0 .tracks, c .before .before .loop-test .taken))
 
 give-track-requires : tie.Need-give-track-requires Inv-loop μ-loop
 give-track-requires c κs = search needs
 
 add-t : tie.Need-add-t Inv-loop μ-loop
-add-t c = omega (arith, c .before .before .before .before .before .before .before .before .loop-test .taken, c .before .before .before .before .before .before .before .before .before .before .before .before .before .before .pre .0 .tracks)
+add-t c =
+    let at-loop-test = c .before .before .before .before .before .before .before .before in
+    let at-start = at-loop-test .before .before .before .before .before .before in
+    omega (arith, at-loop-test .loop-test .taken, at-start .pre .0 .tracks)
 
 loop-less : tie.Need-loop-less Inv-loop μ-loop
-loop-less c = omega (arith, c .before .before .before .before .before .before .before .before .loop-test .taken)
+loop-less c =
+    let at-loop-test = c .before .before .before .before .before .before .before .before in
+    omega (arith, at-loop-test .loop-test .taken)
 
 loop-again : tie.Need-loop-again Inv-loop μ-loop
 loop-again c =
-    let g = c .before .before .before .before .before .before .before .before .before .before .before .before .before .before .args in
+    let at-give-track = c .before .before .before in
+    let at-column2 = at-give-track .before .before in
+    let at-loop-test = at-column2 .before .before .before in
+    let at-loop = at-loop-test .before in
+    let at-top-pad = at-loop .before .before in
+    let at-start = at-top-pad .before .before .before in
+    let g = at-start .args in
     let E : ℕ → ℕ → ℤ = drawn (length (g .a .now)) (pad (g .a .now)) (topPad (g .b .now) (toZ w32 (ofZ w32 (g .d)))) in
     let W : List ℕ = take (g .at) (g .out .now) ++ wireText (g .line) E (g .i) (g .track) (g .s - g .track) in
-    let ec = back (c .before .before .before .before .before .before .before .before .before .before .before .top-pad .result) (c .before .before .before .before .before .before .before .before .before .before .before .top-pad .ok) ∙ c .before .before .before .before .before .before .before .before .before .before .before .top-pad .ensures in
-    let ey = back (c .before .before .before .before .before .column2 .result) (c .before .before .before .before .before .column2 .ok) ∙ c .before .before .before .before .before .column2 .ensures ∙ ap (λ (z : ℤ). entry (length (g .a .now)) (pad (g .a .now)) z (g .i) (c .before .before .before .before .before .before .before .before .before .loop .t + 1)) ec in (
-      c .before .before .before .give-track .kept .1 .0 ∙ c .before .before .before .before .before .before .before .before .before .loop .inv .0,
-      omega (arith, c .before .before .before .before .before .before .before .before .loop-test .taken),
+    let ec = back (at-top-pad .top-pad .result) (at-top-pad .top-pad .ok) ∙ at-top-pad .top-pad .ensures in
+    let ey = back (at-column2 .column2 .result) (at-column2 .column2 .ok) ∙ at-column2 .column2 .ensures ∙ ap (λ (z : ℤ). entry (length (g .a .now)) (pad (g .a .now)) z (g .i) (at-loop .loop .t + 1)) ec in (
+      at-give-track .give-track .kept .1 .0 ∙ at-loop .loop .inv .0,
+      omega (arith, at-loop-test .loop-test .taken),
       ey,
-      wire-step (g .line) (g .s) E (g .i) W (c .before .before .before .before .before .before .before .before .before .loop .out) (c .before .before .before .give-track .last .1 .0) (c .before .before .before .before .before .before .before .before .before .loop .t) (c .before .before .before .before .before .before .before .before .before .loop .p) (c .before .before .before .give-track .result .at) (toZ w32 (c .before .before .before .before .before .before .before .before .before .loop .x)) (toZ w32 (ofZ w32 (c .before .before .before .before .before .column2 .result)))
-          (c .before .before .before .before .before .before .before .before .loop-test .taken) (c .before .before .before .before .before .before .before .before .before .loop .inv .2) ey (c .before .before .before .before .before .before .before .before .before .loop .inv .3) (c .before .before .before .give-track .ensures .wrote (c .if3 .taken)),
-      λ h. let y = c .before .before .before .before .before .before .before .before .before .loop .inv .4 h in let z = c .before .before .before .give-track .ensures .fits (omega (arith, y, c .before .before .before .before .before .before .before .before .before .loop .inv .0)) in omega (arith, z, c .before .before .before .before .before .before .before .before .before .loop .inv .0),
+      wire-step (g .line) (g .s) E (g .i) W (at-loop .loop .out) (at-give-track .give-track .last .1 .0) (at-loop .loop .t) (at-loop .loop .p) (at-give-track .give-track .result .at) (toZ w32 (at-loop .loop .x)) (toZ w32 (ofZ w32 (at-column2 .column2 .result)))
+          (at-loop-test .loop-test .taken) (at-loop .loop .inv .2) ey (at-loop .loop .inv .3) (at-give-track .give-track .ensures .wrote (c .if3 .taken)),
+      λ h. let y = at-loop .loop .inv .4 h in let z = at-give-track .give-track .ensures .fits (omega (arith, y, at-loop .loop .inv .0)) in omega (arith, z, at-loop .loop .inv .0),
     )
 
 same-length : tie.Need-same-length Inv-loop μ-loop
-same-length c = c .before .before .before .give-track .kept .1 .0 ∙ c .before .before .before .before .before .before .before .before .before .loop .inv .0
+same-length c =
+    let at-loop = c .before .before .before .before .before .before .before .before .before in
+    c .before .before .before .give-track .kept .1 .0 ∙ at-loop .loop .inv .0
 
 returns-2 : tie.Need-returns-2 Inv-loop μ-loop
 returns-2 c =
-    let g = c .before .before .before .before .before .before .before .before .before .before .before .before .before .before .args in
-    let e = toZ-ofZ w32 (g .d) (c .before .before .before .before .before .before .before .before .before .before .before .before .before .before .fits .d) in
+    let at-give-track = c .before .before .before in
+    let at-loop = at-give-track .before .before .before .before .before .before in
+    let at-start = at-loop .before .before .before .before .before in
+    let g = at-start .args in
+    let e = toZ-ofZ w32 (g .d) (at-start .fits .d) in
     let E : ℕ → ℕ → ℤ = drawn (length (g .a .now)) (pad (g .a .now)) (topPad (g .b .now) (toZ w32 (ofZ w32 (g .d)))) in
     let W : List ℕ = take (g .at) (g .out .now) ++ wireText (g .line) E (g .i) (g .track) (g .s - g .track) in
-    let f = c .before .before .before .give-track .ensures .full (c .if3 .left) in
+    let f = at-give-track .give-track .ensures .full (c .if3 .left) in
     record {
-      gave = rw e at (wire-full (g .line) (g .s) E (g .i) W (c .before .before .before .before .before .before .before .before .before .loop .out) (c .before .before .before .give-track .last .1 .0) (c .before .before .before .before .before .before .before .before .before .loop .t) (c .before .before .before .before .before .before .before .before .before .loop .p) (f .1) (c .before .before .before .before .before .before .before .before .before .loop .inv .3));
-      fits = c .before .before .before .before .before .before .before .before .before .loop .inv .4;
-      far = λ h. omega (arith, f .2, c .before .before .before .before .before .before .before .before .before .loop .inv .0);
+      gave = rw e at (wire-full (g .line) (g .s) E (g .i) W (at-loop .loop .out) (at-give-track .give-track .last .1 .0) (at-loop .loop .t) (at-loop .loop .p) (f .1) (at-loop .loop .inv .3));
+      fits = at-loop .loop .inv .4;
+      far = λ h. omega (arith, f .2, at-loop .loop .inv .0);
     }
 
 same-length-2 : tie.Need-same-length-2 Inv-loop μ-loop
@@ -93,15 +115,18 @@ same-length-2 c = c .before .before .before .loop .inv .0
 
 returns-3 : tie.Need-returns-3 Inv-loop μ-loop
 returns-3 c =
-    let g = c .before .before .before .before .before .before .before .before .args in
-    let e = toZ-ofZ w32 (g .d) (c .before .before .before .before .before .before .before .before .fits .d) in
+    let at-loop = c .before .before .before in
+    let at-top-pad = at-loop .before .before in
+    let at-start = at-top-pad .before .before .before in
+    let g = at-start .args in
+    let e = toZ-ofZ w32 (g .d) (at-start .fits .d) in
     let C : ℕ → ℤ = topPad (g .b .now) (toZ w32 (ofZ w32 (g .d))) in
     let W : List ℕ = take (g .at) (g .out .now) ++ wireText (g .line) (drawn (length (g .a .now)) (pad (g .a .now)) C) (g .i) (g .track) (g .s - g .track) in
-    let ec = back (c .before .before .before .before .before .top-pad .result) (c .before .before .before .before .before .top-pad .ok) ∙ c .before .before .before .before .before .top-pad .ensures in
+    let ec = back (at-top-pad .top-pad .result) (at-top-pad .top-pad .ok) ∙ at-top-pad .top-pad .ensures in
     record {
-      gave = rw e at (wire-still (g .line) (g .s) (length (g .a .now)) (pad (g .a .now)) C (c .before .before .before .before .before .before .before .before .pre .0 .rows .bottom .rising) (g .i) W (c .before .before .before .loop .out) (c .before .before .before .loop .t) (c .before .before .before .loop .p) (toZ w32 (c .before .before .before .loop .x)) (toZ w32 (ofZ w32 (c .before .before .before .before .before .top-pad .result)))
-          (c .before .before .before .before .before .before .before .before .pre .1) (c .before .before .before .loop .inv .2) ec (sym (c .before .differs .ensures) ∙ c .if2 .left) (c .before .before .before .loop .inv .3));
-      fits = c .before .before .before .loop .inv .4;
+      gave = rw e at (wire-still (g .line) (g .s) (length (g .a .now)) (pad (g .a .now)) C (at-start .pre .0 .rows .bottom .rising) (g .i) W (at-loop .loop .out) (at-loop .loop .t) (at-loop .loop .p) (toZ w32 (at-loop .loop .x)) (toZ w32 (ofZ w32 (at-top-pad .top-pad .result)))
+          (at-start .pre .1) (at-loop .loop .inv .2) ec (sym (c .before .differs .ensures) ∙ c .if2 .left) (at-loop .loop .inv .3));
+      fits = at-loop .loop .inv .4;
       far = λ h. absurd (omega arith);
     }
 
@@ -110,7 +135,8 @@ same-length-3 c = c .before .loop .inv .0
 
 returns-4 : tie.Need-returns-4 Inv-loop μ-loop
 returns-4 c =
-    let e = toZ-ofZ w32 (c .before .before .before .before .before .before .args .d) (c .before .before .before .before .before .before .fits .d) in
+    let at-start = c .before .before .before .before .before .before in
+    let e = toZ-ofZ w32 (at-start .args .d) (at-start .fits .d) in
     record { gave = rw e at (c .before .loop .inv .3); fits = c .before .loop .inv .4; far = λ h. absurd (omega (arith, c .loop-test .left)) }
 
 pub give-wire-spec : {M : Type 1} → statement M
