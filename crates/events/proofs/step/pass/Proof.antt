@@ -1,0 +1,15 @@
+use borrow.Author.Needs.{needs}
+use Rattle.events.proofs.step.pass.Statement.{statement}
+use Rattle.events.proofs.step.pass.Tie as tie
+
+no-order-requires : tie.Need-no-order-requires
+no-order-requires c κs = search needs
+
+step-to-requires : tie.Need-step-to-requires
+step-to-requires c κs = search needs
+
+returns : tie.Need-returns
+returns c = cc
+
+pub pass-spec : {M : Type 1} → statement M
+pass-spec = tie.close (tie.spec no-order-requires step-to-requires returns)
