@@ -23,9 +23,8 @@ use Rattle.frame.specs.Puts.{puts, LinePut}
 use Rattle.frame.proofs.Puts.{take-puts, answer-length}
 use Rattle.frame.specs.declared.write.Answer.{Answer}
 use Rattle.sheet.specs.Machine.{shown, refusalText}
-use Rattle.sheet.specs.Owes.{modeOf, seenBy, cutText, dueText, leftText, pending, later, isBusy, Given}
+use Rattle.sheet.specs.Owes.{cutText, dueText, leftText, pending, later, isBusy, Given}
 use Rattle.sheet.specs.Parts.{GivenOn, CutGiven, DueGiven}
-use Rattle.sheet.specs.Steps.{isHeld}
 use Rattle.sheet.specs.declared.state.State.{State}
 use Rattle.frame.proofs.Scan.{either}
 use Rattle.route.specs.Moves.{MovesOut}
@@ -58,10 +57,10 @@ module _ (k : Answer) (out : List ℕ) (at p : ℕ) (out' : List ℕ) (put : Lin
 -- the state with these fields anew
 abbrev pub changed : State → Bool → Bool → ℕ → ℕ → State
 changed s cut due i t =
-    record { at = s .at; phase = s .phase; order = s .order; bottom = s .bottom; top = s .top; seen = s .seen; cut = cut; former = s .former; due = due; answer = s .answer; wires = s .wires; wire = i; track = t }
+    record { at = s .at; machine = s .machine; cut = cut; former = s .former; due = due; answer = s .answer; wires = s .wires; wire = i; track = t }
 
 changed-later : (s : State) (cut due : Bool) (i t : ℕ) (line : List ℕ) (a b : List ℤ) (rest : List ℕ) → later (changed s cut due i t) line a b rest ≡ later s line a b rest
-unfolding later modeOf isHeld
+unfolding later
 changed-later s cut due i t line a b rest = refl
 
 given-same : (s : State) (out : List ℕ) (at : ℕ) → GivenOn s out at s at out

@@ -1,5 +1,4 @@
 mod Lines
-mod Noted
 mod Steps
 mod Gives
 pub mod Feeds

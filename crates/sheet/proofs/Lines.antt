@@ -13,7 +13,7 @@ use borrow.Author.Tests.{eq-eqb, ne-eqb, eqb-false, eqb-true, ltb-true, ltb-fals
 use Rattle.frame.specs.Frame.{Frame, bad, textFrame, isFed, frameOf}
 use Rattle.frame.proofs.Scan.{either, below-or}
 use Rattle.frame.proofs.Frames.{long-bad, fed-frame, fed-last, unfed-bad}
-use Rattle.sheet.specs.Lines.{lastLine, linesFrom, linesOf}
+use Rattle.events.specs.Lines.{lastLine, linesFrom, linesOf}
 use Rattle.sheet.specs.Owes.{lastFrame, framesFrom}
 use Rattle.sheet.specs.Parts.{StoredIn, FeedAt, Kept, LineFound, textIn}
 

@@ -15,24 +15,10 @@ use Rattle.jumper.specs.declared.refusal.Refusal.the-variants.{Sequence}
 use Rattle.frame.specs.Frame.{Frame, bad, textFrame}
 use Rattle.frame.specs.Written.{answerLine}
 use Rattle.route.specs.Moves.{movesLeft}
-use Rattle.sheet.specs.Machine.{Mode, ready, inside, skipping, refusalText, machine, answers}
-use Rattle.sheet.specs.Steps.{hasLine, isHeld}
-use Rattle.sheet.specs.declared.state.Phase.{Phase}
-use Rattle.sheet.specs.declared.state.Phase.the-variants.{Ready, Inside, Skipping}
+use Rattle.events.specs.Events.{events}
+use Rattle.events.specs.Steps.{modeOf, seenBy}
+use Rattle.sheet.specs.Machine.{refusalText, told, answers}
 use Rattle.sheet.specs.declared.state.State.{State}
-
--- where the machine is. A state that no call made, whose counts can't be, stands for one that skips
-abbrev pub modeBy : Phase → Mode → Mode
-modeBy Ready m = ready
-modeBy Inside m = m
-modeBy Skipping m = skipping
-
-unfoldable pub modeOf : State → List ℤ → List ℤ → Mode
-modeOf s a b = modeBy (s .phase) (cond (isHeld s) (inside (s .order) (take (s .bottom) a) (take (s .top) b)) skipping)
-
--- which line numbers were seen
-abbrev pub seenBy : State → ℕ → Bool
-seenBy s l = hasLine (s .seen) l
 
 -- the frames of what is left of a sheet, where the current line has this text so far; a last line without its line feed is bad
 unfoldable pub lastFrame : List ℕ → List Frame
@@ -59,9 +45,9 @@ leftText s a b = cond (leb (s .wires) maxPairs) (wiredText s (take (s .wires) a)
 unfoldable pub pending : State → List ℤ → List ℤ → List ℕ
 pending s a b = cutText s ++ (dueText s ++ leftText s a b)
 
--- what the machine will answer to the rest of the sheet
+-- what will answer the events of the rest of the sheet
 unfoldable pub later : State → List ℕ → List ℤ → List ℤ → List ℕ → List ℕ
-later s line a b rest = machine (seenBy s) (modeOf s a b) (framesFrom (take (s .at) line) rest)
+later s line a b rest = told (events (seenBy (s .machine)) (modeOf (s .machine) a b) (framesFrom (take (s .at) line) rest))
 
 unfoldable pub owes : State → List ℕ → List ℤ → List ℤ → List ℕ → List ℕ
 owes s line a b rest = pending s a b ++ later s line a b rest

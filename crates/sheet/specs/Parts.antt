@@ -7,15 +7,17 @@ use lib.Dec.{eqb}
 use lib.ListN.{length, getD, take, drop, set}
 use lib.IntN.{ℤ}
 use Rattle.frame.specs.Frame.{Frame}
-use Rattle.sheet.specs.Machine.{react, noted}
-use Rattle.sheet.specs.Owes.{modeOf, seenBy, framesFrom, pending, later, owes, isBusy}
+use Rattle.events.specs.Events.{modeAfter, event, noted}
+use Rattle.events.specs.Steps.{modeOf, seenBy}
+use Rattle.sheet.specs.Machine.{textOf}
+use Rattle.sheet.specs.Owes.{framesFrom, pending, later, owes, isBusy}
 use Rattle.sheet.specs.declared.state.State.{State}
 
 -- a line's text f is taken in where nothing is to be written
 pub record Reacted (s : State) (a b : List ℤ) (f : Frame) (r : State) (a' b' : List ℤ) : Type 0 where
-  pub out : pending r a' b' ≡ react (seenBy s) (modeOf s a b) f .out
-  pub to : modeOf r a' b' ≡ react (seenBy s) (modeOf s a b) f .to
-  pub seen : (l : ℕ) → l < 64 → seenBy r l ≡ noted (seenBy s) f l
+  pub out : pending r a' b' ≡ textOf (event (seenBy (s .machine)) (modeOf (s .machine) a b) f)
+  pub to : modeOf (r .machine) a' b' ≡ modeAfter (event (seenBy (s .machine)) (modeOf (s .machine) a b) f)
+  pub seen : (l : ℕ) → l < 64 → seenBy (r .machine) l ≡ noted (seenBy (s .machine)) f l
   pub begun : r .at ≡ 0
 
 -- a byte is stored at place `at` if it has room there

@@ -5,20 +5,17 @@ ghost use mathlib.Core.List.{List};
 ghost use Prim.Native.Nat.{_≤_};
 ghost use lib.ListN.{length};
 ghost use lib.IntN.{ℤ};
-ghost use Rattle.jumper.specs.Limits.{maxPairs};
 ghost use Rattle.sheet.specs.Owes.{Fed, Finished};
 ghost use Rattle.sheet.specs.Parts.{StoredIn, Kept, LineFound, TakenIn, textIn};
-use crate::give::give_all;
+use crate::give::give;
 use crate::line_end::line_end;
-use crate::state::Phase;
 use crate::state::State;
 use crate::state::busy;
-use crate::state::held;
-use crate::state::refuse;
-use crate::state::skip;
-use crate::step::on_text;
+use crate::state::on_step;
+use crate::step::take_text;
+use events::step::on_end;
+use events::step::on_rest;
 use jumper::limits::MAX_PAIRS;
-use jumper::refusal::Refusal;
 
 // A state, how much of the piece was taken in, and the place after what was written.
 pub struct Feeding {
@@ -92,8 +89,14 @@ fn text_of<'x>(line: &'x [u8], at: usize, piece: &'x [u8], from: usize, to: usiz
 }
 
 // Takes a piece in until something is to be written, or the piece ends.
-fn take_in(line: &mut [u8], a: &mut [i32], b: &mut [i32], s: State, piece: &[u8]) -> Taking
-    requires { ⌜ (length (now line) ≡ 160) × (length (now a) ≡ maxPairs) × (length (now b) ≡ maxPairs) ⌝ }
+fn take_in(
+    line: &mut [u8],
+    a: &mut [i32; MAX_PAIRS],
+    b: &mut [i32; MAX_PAIRS],
+    s: State,
+    piece: &[u8],
+) -> Taking
+    requires { ⌜ length (now line) ≡ 160 ⌝ }
     ensures { λ r. ⌜ TakenIn s (now (line .entry)) (now (a .entry)) (now (b .entry)) (now (piece .entry)) (r .s) (r .used) (now (line .exit)) (now (a .exit)) (now (b .exit)) ⌝ }
 {
     let mut st = s;
@@ -107,30 +110,30 @@ fn take_in(line: &mut [u8], a: &mut [i32], b: &mut [i32], s: State, piece: &[u8]
         if piece.len() <= k.i {
             return Taking { s: st, used: k.i };
         }
-        st = on_text(text_of(line, k.at, piece, i, k.i), a, b, st);
+        st = take_text(text_of(line, k.at, piece, i, k.i), a, b, st);
         i = k.i + 1;
     }
     Taking { s: st, used: i }
 }
 
-// Over slices, whose lengths are told.
+// Over a slice, whose length is told.
 fn feed_on(
     line: &mut [u8],
-    a: &mut [i32],
-    b: &mut [i32],
+    a: &mut [i32; MAX_PAIRS],
+    b: &mut [i32; MAX_PAIRS],
     s: State,
     piece: &[u8],
     out: &mut [u8],
     at: usize,
 ) -> Feeding
-    requires { ⌜ (length (now line) ≡ 160) × (length (now a) ≡ maxPairs) × (length (now b) ≡ maxPairs) ⌝ }
+    requires { ⌜ length (now line) ≡ 160 ⌝ }
     ensures { λ r. ⌜ Fed s (now (line .entry)) (now (a .entry)) (now (b .entry)) (now (piece .entry)) (now (out .entry)) at (r .s) (r .used) (r .n) (now (line .exit)) (now (a .exit)) (now (b .exit)) (now (out .exit)) ⌝ }
 {
     let mut st = s;
     let mut used: usize = 0;
     let mut n = at;
     while used < piece.len() {
-        let g = give_all(a, b, st, out, n);
+        let g = give(a, b, st, out, n);
         st = g.s;
         n = g.n;
         if busy(st) {
@@ -166,28 +169,10 @@ fn finish_on(line: &[u8], s: State) -> State
     if busy(s) {
         return s;
     }
-    let at = s.at;
-    let seen = s.seen;
-    let open = s.order.line;
-    let phase = s.phase;
-    match phase {
-        Phase::Ready => {
-            if at == 0 {
-                return skip(seen);
-            }
-            refuse(255, Refusal::Frame, seen)
-        }
-        Phase::Skipping => skip(seen),
-        Phase::Inside => {
-            if held(s) {
-                if at == 0 {
-                    return refuse(open, Refusal::Sequence, seen);
-                }
-                return refuse(open, Refusal::Frame, seen);
-            }
-            skip(seen)
-        }
+    if s.at == 0 {
+        return on_step(on_end(s.machine));
     }
+    on_step(on_rest(s.machine))
 }
 
 // The sheet ends. A last line without its line feed is a bad frame, and an open line is out of sequence.

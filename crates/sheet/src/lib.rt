@@ -4,6 +4,5 @@ pub mod feed;
 pub mod give;
 mod line_end;
 mod planned;
-mod seen;
 pub mod state;
 mod step;

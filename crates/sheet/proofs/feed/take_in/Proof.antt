@@ -2,104 +2,68 @@ use native.Mathlib.Omega.{arith}
 use mathlib.Core.Path.{_≡_, refl, sym, _∙_}
 use mathlib.Core.Bool.{true≢false}
 use mathlib.Core.List.{List, _++_}
-use Prim.Native.Nat.{ℕ, _≤_, _<_, _-_}
+use Prim.Native.Nat.{ℕ, _≤_, _-_}
 use lib.ListN.{length, drop}
-use Rattle.frame.specs.Frame.{textFrame}
 use Rattle.sheet.specs.Owes.{owes}
-use Rattle.sheet.proofs.Steps.{kept-owes, fed-owes, some-taken, moved-busy}
+use Rattle.sheet.proofs.Steps.{kept-owes, fed-owes, some-taken}
 use borrow.Author.Needs.{needs}
 use Rattle.sheet.proofs.feed.take_in.Statement.{statement}
 use Rattle.sheet.proofs.feed.take_in.Tie as tie
 
 abbrev Inv-loop : tie.InvT-loop
-Inv-loop line₀ a₀ b₀ piece st₀ i₀ line a b st i = (i ≤ length piece) × (length line ≡ 160) × (length a ≡ 2048) × (length b ≡ 2048) × ((rest : List ℕ) → owes st₀ line₀ a₀ b₀ (piece ++ rest) ≡ owes st line a b (drop i piece ++ rest)) × (i ≡ 0 → st ≡ st₀)
+Inv-loop line₀ a₀ b₀ piece st₀ i₀ line a b st i = (i ≤ length piece) × (length line ≡ 160) × ((rest : List ℕ) → owes st₀ line₀ a₀ b₀ (piece ++ rest) ≡ owes st line a b (drop i piece ++ rest)) × (i ≡ 0 → st ≡ st₀)
 
 abbrev μ-loop : tie.MeasureT-loop
 μ-loop line₀ a₀ b₀ piece st₀ i₀ line a b st i = length piece - i
 
 loop-holds : tie.Need-loop-holds Inv-loop μ-loop
-loop-holds c = (search needs, c .before .before .pre .0, c .before .before .pre .1, c .before .before .pre .2, (λ rest. refl), (λ z. refl))
+loop-holds c = (search needs, c .before .before .pre, (λ rest. refl), λ z. refl)
 
 busy-requires : tie.Need-busy-requires Inv-loop μ-loop
 busy-requires c κs = search needs
 
 same-length : tie.Need-same-length Inv-loop μ-loop
-same-length c = c .before .before .before .loop .inv .1 ∙ sym (c .before .before .before .before .before .before .pre .0)
-
-same-length-2 : tie.Need-same-length-2 Inv-loop μ-loop
-same-length-2 c = c .before .before .before .loop .inv .2 ∙ sym (c .before .before .before .before .before .before .pre .1)
-
-same-length-3 : tie.Need-same-length-3 Inv-loop μ-loop
-same-length-3 c = c .before .before .before .loop .inv .3 ∙ sym (c .before .before .before .before .before .before .pre .2)
+same-length c = c .before .before .before .loop .inv .1 ∙ sym (c .before .before .before .before .before .before .pre)
 
 returns : tie.Need-returns Inv-loop μ-loop
-returns c = record { owed = c .before .before .before .loop .inv .4; within = c .before .before .before .loop .inv .0; far = (λ e. absurd (true≢false (sym (c .if1 .taken) ∙ c .before .busy .ensures .answer ∙ e))); some = λ e h. some-taken _ _ _ (sym (c .before .busy .ensures .answer) ∙ c .if1 .taken) (c .before .before .before .loop .inv .5) e }
+returns c =
+    let busy = sym (c .before .busy .ensures .answer) ∙ c .if1 .taken in
+    record { owed = c .before .before .before .loop .inv .2; within = c .before .before .before .loop .inv .0; far = (λ e. absurd (true≢false (sym busy ∙ e))); some = λ e h. some-taken _ _ _ busy (c .before .before .before .loop .inv .3) e }
 
 find-line-requires : tie.Need-find-line-requires Inv-loop μ-loop
 find-line-requires c κs = (c .before .before .before .before .loop .inv .1, c .before .before .before .before .loop .inv .0)
 
-same-length-4 : tie.Need-same-length-4 Inv-loop μ-loop
-same-length-4 c = c .before .before .before .before .find-line .kept .0 ∙ c .before .before .before .before .before .before .before .before .before .loop .inv .1 ∙ sym (c .before .before .before .before .before .before .before .before .before .before .before .before .pre .0)
-
-same-length-5 : tie.Need-same-length-5 Inv-loop μ-loop
-same-length-5 c = c .before .before .before .before .before .before .before .before .before .loop .inv .2 ∙ sym (c .before .before .before .before .before .before .before .before .before .before .before .before .pre .1)
-
-same-length-6 : tie.Need-same-length-6 Inv-loop μ-loop
-same-length-6 c = c .before .before .before .before .before .before .before .before .before .loop .inv .3 ∙ sym (c .before .before .before .before .before .before .before .before .before .before .before .before .pre .2)
+same-length-2 : tie.Need-same-length-2 Inv-loop μ-loop
+same-length-2 c = c .before .before .before .before .find-line .kept .0 ∙ c .before .before .before .before .before .before .before .before .before .loop .inv .1 ∙ sym (c .before .before .before .before .before .before .before .before .before .before .before .before .pre)
 
 returns-2 : tie.Need-returns-2 Inv-loop μ-loop
-returns-2 c = record { owed = kept-owes _ _ _ _ _ _ _ (c .before .before .before .before .before .before .before .before .before .loop .inv .4) (sym (c .before .before .before .before .before .before .before .busy .ensures .answer) ∙ c .before .before .before .before .before .before .if1 .left) _ _ _ (c .before .before .before .before .find-line .ensures) (c .if2 .taken); within = c .before .before .before .before .find-line .ensures .within; far = (λ e. omega (arith, c .if2 .taken, c .before .before .before .before .find-line .ensures .within)); some = λ e h. omega (arith, c .if2 .taken, h) }
+returns-2 c =
+    let found = c .before .before .before .before .find-line .ensures in
+    record { owed = kept-owes _ _ _ _ _ _ _ (c .before .before .before .before .before .before .before .before .before .loop .inv .2) (sym (c .before .before .before .before .before .before .before .busy .ensures .answer) ∙ c .before .before .before .before .before .before .if1 .left) _ _ _ found (c .if2 .taken); within = found .within; far = (λ e. omega (arith, c .if2 .taken, found .within)); some = λ e h. omega (arith, c .if2 .taken, h) }
 
 text-of-requires : tie.Need-text-of-requires Inv-loop μ-loop
 text-of-requires c κs = (c .before .before .before .before .before .find-line .ensures .ahead, c .before .before .before .before .before .find-line .ensures .within)
 
-on-text-requires : tie.Need-on-text-requires Inv-loop μ-loop
-on-text-requires c κs = (c .before .before .before .before .before .before .before .before .before .before .before .before .before .loop .inv .2, c .before .before .before .before .before .before .before .before .before .before .before .before .before .loop .inv .3)
+take-text-requires : tie.Need-take-text-requires Inv-loop μ-loop
+take-text-requires c κs = search needs
 
 add-i : tie.Need-add-i Inv-loop μ-loop
-add-i c = omega (arith, c .before .before .before .before .before .before .before .before .if2 .left, c .before .before .before .before .before .before .before .before .before .before .before .before .before .before .before .before .before .before .before .before .good)
+add-i c = omega (arith, c .before .before .before .before .before .before .if2 .left, c .before .before .before .before .before .before .before .before .before .before .before .before .before .before .before .before .before .before .good)
 
 loop-less : tie.Need-loop-less Inv-loop μ-loop
-loop-less c = omega (arith, c .before .before .before .before .before .before .before .before .if2 .left, c .before .before .before .before .before .before .before .before .before .before .before .before .find-line .ensures .ahead, c .before .before .before .before .before .before .before .before .before .before .before .before .before .before .before .before .loop-test .taken)
+loop-less c = omega (arith, c .before .before .before .before .before .before .if2 .left, c .before .before .before .before .before .before .before .before .before .before .find-line .ensures .ahead, c .before .before .before .before .before .before .before .before .before .before .before .before .before .before .loop-test .taken)
 
 loop-again : tie.Need-loop-again Inv-loop μ-loop
-loop-again c = (omega (arith, c .before .before .before .before .before .before .before .before .if2 .left), c .before .before .before .before .before .before .before .before .before .before .before .before .find-line .kept .0 ∙ c .before .before .before .before .before .before .before .before .before .before .before .before .before .before .before .before .before .loop .inv .1, c .before .before .before .on-text .kept .1 .0 ∙ c .before .before .before .before .before .before .before .before .before .before .before .before .before .before .before .before .before .loop .inv .2, c .before .before .before .on-text .kept .1 .1 .0 ∙ c .before .before .before .before .before .before .before .before .before .before .before .before .before .before .before .before .before .loop .inv .3, fed-owes _ _ _ _ _ _ _ (c .before .before .before .before .before .before .before .before .before .before .before .before .before .before .before .before .before .loop .inv .4) (sym (c .before .before .before .before .before .before .before .before .before .before .before .before .before .before .before .busy .ensures .answer) ∙ c .before .before .before .before .before .before .before .before .before .before .before .before .before .before .if1 .left) _ _ _ (c .before .before .before .before .before .before .before .before .before .before .before .before .find-line .ensures) _ _ _ (c .before .before .before .before .before .before .before .before .if2 .left) (rw (c .before .before .before .before .before .before .text-of .ensures) at (c .before .before .before .on-text .ensures)), λ z. absurd (omega arith))
+loop-again c =
+    let found = c .before .before .before .before .before .before .before .before .before .before .find-line in
+    let inv = c .before .before .before .before .before .before .before .before .before .before .before .before .before .before .before .loop .inv in
+    (omega (arith, c .before .before .before .before .before .before .if2 .left), found .kept .0 ∙ inv .1, fed-owes _ _ _ _ _ _ _ (inv .2) (sym (c .before .before .before .before .before .before .before .before .before .before .before .before .before .busy .ensures .answer) ∙ c .before .before .before .before .before .before .before .before .before .before .before .before .if1 .left) _ _ _ (found .ensures) _ _ _ (c .before .before .before .before .before .before .if2 .left) (rw (c .before .before .before .before .text-of .ensures) at (c .before .take-text .ensures)), λ z. absurd (omega arith))
 
-same-length-7 : tie.Need-same-length-7 Inv-loop μ-loop
-same-length-7 c = c .before .loop .inv .1 ∙ sym (c .before .before .before .before .pre .0)
-
-same-length-8 : tie.Need-same-length-8 Inv-loop μ-loop
-same-length-8 c = c .before .loop .inv .2 ∙ sym (c .before .before .before .before .pre .1)
-
-same-length-9 : tie.Need-same-length-9 Inv-loop μ-loop
-same-length-9 c = c .before .loop .inv .3 ∙ sym (c .before .before .before .before .pre .2)
+same-length-3 : tie.Need-same-length-3 Inv-loop μ-loop
+same-length-3 c = c .before .loop .inv .1 ∙ sym (c .before .before .before .before .pre)
 
 returns-3 : tie.Need-returns-3 Inv-loop μ-loop
-returns-3 c = record { owed = c .before .loop .inv .4; within = c .before .loop .inv .0; far = (λ e. omega (arith, c .loop-test .left, c .before .loop .inv .0)); some = λ e h. omega (arith, c .loop-test .left, h) }
+returns-3 c = record { owed = c .before .loop .inv .2; within = c .before .loop .inv .0; far = (λ e. omega (arith, c .loop-test .left, c .before .loop .inv .0)); some = λ e h. omega (arith, c .loop-test .left, h) }
 
 pub take-in-spec : {M : Type 1} → statement M
-take-in-spec =
-    tie.close
-    (tie.spec
-    Inv-loop
-    μ-loop
-    loop-holds
-    busy-requires
-    same-length
-    same-length-2
-    same-length-3
-    returns
-    find-line-requires
-    same-length-4
-    same-length-5
-    same-length-6
-    returns-2
-    text-of-requires
-    on-text-requires
-    add-i
-    loop-less
-    loop-again
-    same-length-7
-    same-length-8
-    same-length-9
-    returns-3)
+take-in-spec = tie.close (tie.spec Inv-loop μ-loop loop-holds busy-requires same-length returns find-line-requires same-length-2 returns-2 text-of-requires take-text-requires add-i loop-less loop-again same-length-3 returns-3)
