@@ -1,15 +1,14 @@
 -- The line numbers seen, as bits of one number.
-use mathlib.Core.Path.{_≡_, refl, sym, ap, _∙_}
-use mathlib.Core.Bool.{Bool, true, false, cond}
-use mathlib.Core.Logic.{_⊎_, inl, inr}
-use Prim.Native.Nat.{ℕ, zero, suc, _+_, _*_, _-_, _/_, _%_, _^_, _<_, _≤_, max}
+use mathlib.Core.Path.{_≡_, sym, ap, _∙_}
+use mathlib.Core.Bool.{true, false, cond}
+use Prim.Native.Nat.{ℕ, suc, _+_, _*_, _-_, _/_, _%_, _^_, _<_, max}
 use native.Mathlib.Nat.{div-eq-of-lt, mul-mod-right, pow-succ', zero-div}
 use native.Mathlib.Decide.{decLt}
 use native.Mathlib.Omega.{arith}
 use lib.Bits.{bitOr, or-shr, or-step}
-use lib.Pow.{pow-pos, pow-lt, pow-add, shl-shr, shl-exact}
+use lib.Pow.{pow-lt, pow-add, shl-shr, shl-exact}
 use lib.Dec.{eqb, leb}
-use borrow.Author.Tests.{lt-leb, le-leb, eq-eqb, ne-eqb, leb-true, leb-false, eqb-true, eqb-false}
+use borrow.Author.Tests.{ne-eqb, leb-true, eqb-true, eqb-false}
 use Rattle.frame.proofs.Scan.{either}
 use Rattle.events.specs.Steps.{hasLine, withLine}
 

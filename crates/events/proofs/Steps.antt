@@ -1,16 +1,16 @@
 -- The numbers that the code goes to are those of the event, and the event is read back from them.
 -- Sections: an event that fits the lent rows; told; outside of a line; which frame was read; inside a line.
 use mathlib.Core.Path.{_≡_, refl, sym, ap, _∙_, subst}
-use mathlib.Core.Bool.{Bool, true, false, cond, true≢false, false≢true}
+use mathlib.Core.Bool.{Bool, true, false, cond, false≢true}
 use mathlib.Core.List.{List, [], _∷_, _++_, append-nil}
-use Prim.Native.Nat.{ℕ, zero, suc, _+_, _-_, _<_, _≤_}
+use Prim.Native.Nat.{ℕ, zero, suc, _+_, _<_, _≤_}
 use native.Mathlib.Numerals.{add-one}
 use native.Mathlib.Omega.{arith}
 use lib.Dec.{eqb, ltb, leb}
 use lib.ListN.{length, getD, take, drop, set, length-set, length-append}
 use lib.Seq.{drop-cons, set-getD, length-take-le}
 use lib.IntN.{ℤ, pos}
-use borrow.Author.Tests.{le-leb, lt-leb, eq-eqb, ne-eqb, eqb-true, eqb-false, leb-true, leb-false, ltb-false}
+use borrow.Author.Tests.{le-leb, eq-eqb, ne-eqb, eqb-true, leb-true, ltb-false}
 use Rattle.jumper.specs.declared.refusal.Refusal.{Refusal}
 use Rattle.jumper.specs.declared.refusal.Refusal.the-variants.{Empty, Long, Line, Frame as BadFrame, Sequence, Twice}
 use Rattle.frame.specs.Frame.{Frame, bad, header, bottom, top, textFrame, saidOf, columnsOf}
@@ -22,11 +22,10 @@ use Rattle.frame.specs.declared.read.Order.{Order}
 use Rattle.frame.specs.declared.read.Said.{Said}
 use Rattle.frame.specs.declared.read.Said.the-variants.{Bad, Header, Bottom, Top}
 use Rattle.events.specs.Events.{Mode, ready, inside, skipping, Event, opens, fills, completes, refuses, cuts, passes, modeAfter, headed, isNext, fillsBottom, fillsTop, event, atEnd, noted}
-use Rattle.events.specs.Steps.{isInside, outside, modeOf, hasLine, withLine, seenBy, seenWith, noOrder, machineAt, stepTo, stepOf, bottomOf, topOf, toldBy, tells, Told, Stepped, Ended}
+use Rattle.events.specs.Steps.{isInside, outside, modeOf, hasLine, withLine, seenBy, seenWith, noOrder, machineAt, stepTo, stepOf, bottomOf, topOf, toldBy, tells, Told, Stepped}
 use Rattle.events.specs.Parts.{outsideEvent, BottomPut, TopPut}
 use Rattle.events.specs.declared.machine.Machine.{Machine}
-use Rattle.events.specs.declared.step.Did.{Did}
-use Rattle.events.specs.declared.step.Did.the-variants.{Opened, Filled, Completed, Refused, Passed}
+use Rattle.events.specs.declared.step.Did.the-variants.{Filled, Completed}
 use Rattle.events.specs.declared.step.Step.{Step}
 use Rattle.events.proofs.Noted.{with-line}
 

@@ -9,7 +9,7 @@ use lib.Dec.{eqb, leb}
 use lib.ListN.{length, take}
 use lib.IntN.{ℤ, pos}
 use Rattle.jumper.specs.Limits.{maxPairs, maxLines}
-use Rattle.frame.specs.Frame.{Frame, bad, saidOf}
+use Rattle.frame.specs.Frame.{Frame, saidOf}
 use Rattle.frame.specs.Puts.{puts}
 use Rattle.frame.specs.declared.read.Order.{Order}
 use Rattle.frame.specs.declared.read.Said.{Said}

@@ -14,7 +14,6 @@ use borrow.Author.Tests.{lt-ltb, le-ltb, le-leb, eq-eqb, eqb-true, ltb-false}
 use Rattle.jumper.specs.Refusals.{refusalNumbers}
 use Rattle.jumper.specs.Asked.{Asked, checkAsked}
 use Rattle.jumper.specs.declared.refusal.Numbers.{Numbers}
-use Rattle.jumper.specs.declared.refusal.Refusal.{Refusal}
 use Rattle.jumper.specs.declared.refusal.Refusal.the-variants.{Sequence}
 use Rattle.jumper.proofs.Accepted.{number-of}
 use Rattle.jumper.proofs.Checks.{asked-accepted}
@@ -23,7 +22,6 @@ use Rattle.wiring.specs.Drawing.{drawn}
 use Rattle.frame.specs.Frame.{Frame, bad, textFrame}
 use Rattle.frame.specs.Written.{answerLine}
 use Rattle.frame.specs.declared.read.Order.{Order}
-use Rattle.frame.specs.declared.write.Answer.{Answer}
 use Rattle.frame.proofs.Scan.{either}
 use Rattle.events.specs.Events.{Mode, ready, inside, skipping, Event, modeAfter, event, atEnd, noted, events, eventsOf}
 use Rattle.events.specs.Steps.{modeOf, seenBy, stepOf, toldBy, tells, Begun, Told, Stepped}
@@ -35,7 +33,7 @@ use Rattle.events.proofs.Agree.{events-agree}
 use Rattle.route.specs.Moves.{wireText, wiresText, routeLeft, isAsked}
 use Rattle.sheet.specs.Planned.{planned, PlanTold}
 use Rattle.sheet.specs.Machine.{shown, refusalText, lineText, textOf, told, answers}
-use Rattle.sheet.specs.Steps.{noAnswer, owing, refusing, complete, after}
+use Rattle.sheet.specs.Steps.{complete, after}
 use Rattle.sheet.specs.Owes.{framesFrom, lastFrame, leftText, pending, later, owes, isBusy, Fresh, Busy, Finished}
 use Rattle.sheet.specs.Parts.{Reacted, LineFound, textIn}
 use Rattle.sheet.specs.declared.state.State.{State}

@@ -8,7 +8,6 @@ use Rattle.jumper.specs.declared.refusal.Numbers.{Numbers}
 use Rattle.jumper.specs.declared.refusal.Refusal.{Refusal}
 use Rattle.frame.specs.declared.read.Order.{Order}
 use Rattle.frame.specs.declared.write.Answer.{Answer}
-use Rattle.events.specs.declared.machine.Machine.{Machine}
 use Rattle.events.specs.declared.step.Did.{Did}
 use Rattle.events.specs.declared.step.Did.the-variants.{Opened, Filled, Completed, Refused, Passed}
 use Rattle.events.specs.declared.step.Step.{Step}

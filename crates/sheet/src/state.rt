@@ -1,7 +1,7 @@
 // The state of a sheet, and the states that it goes to.
 ghost use mathlib.Core.Path.{_≡_};
 ghost use Rattle.sheet.specs.Machine.{shown};
-ghost use Rattle.sheet.specs.Steps.{noAnswer, owing, quiet, refusing, complete, after};
+ghost use Rattle.sheet.specs.Steps.{noAnswer, owing, quiet, complete, after};
 ghost use Rattle.sheet.specs.Owes.{Fresh, Busy};
 use events::machine::Machine;
 use events::step::Did;
@@ -78,7 +78,7 @@ fn owe(t: Step, due: bool, answer: Answer, wires: usize) -> State
     }
 }
 
-fn rest(t: Step) -> State
+fn say_nothing(t: Step) -> State
     ensures { λ r. ⌜ r ≡ quiet t ⌝ }
 {
     owe(t, false, no_answer(), 0)
@@ -105,11 +105,11 @@ pub(crate) fn on_step(t: Step) -> State
 {
     let did = t.did;
     match did {
-        Did::Opened => rest(t),
-        Did::Filled => rest(t),
-        Did::Completed(_) => rest(t),
+        Did::Opened => say_nothing(t),
+        Did::Filled => say_nothing(t),
+        Did::Completed(_) => say_nothing(t),
         Did::Refused(line, r) => owe(t, true, show(line, r.numbers()), 0),
-        Did::Passed => rest(t),
+        Did::Passed => say_nothing(t),
     }
 }
 

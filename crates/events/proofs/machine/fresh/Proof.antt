@@ -1,4 +1,4 @@
-use mathlib.Core.Path.{refl, ap}
+use mathlib.Core.Path.{refl}
 use Rattle.events.specs.Steps.{modeOf, isInside}
 use Rattle.events.proofs.Noted.{never}
 use borrow.Author.Needs.{needs}

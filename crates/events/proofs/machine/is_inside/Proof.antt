@@ -1,6 +1,5 @@
 use borrow.Author.Tests.{eq-eqb, ne-eqb, le-leb, lt-leb}
 use Rattle.events.specs.Steps.{isInside}
-use borrow.Author.Needs.{needs}
 use Rattle.events.proofs.machine.is_inside.Statement.{statement}
 use Rattle.events.proofs.machine.is_inside.Tie as tie
 

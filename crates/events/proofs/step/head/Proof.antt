@@ -63,4 +63,19 @@ returns-5 c =
     c .step-to .ensures ∙ sym (simp (sym (at-with-line .with-line .ensures), lt-leb _ _ (at-if1 .if1 .left), sym (at-has-line .has-line .ensures), c .before .before .before .if2 .left, ne-eqb _ _ (c .before .before .if3 .left), le-ltb _ _ (c .before .if4 .left)))
 
 pub head-spec : {M : Type 1} → statement M
-head-spec = tie.close (tie.spec with-line-requires cast-if1 refuse-requires returns has-line-requires refuse-requires-2 returns-2 refuse-requires-3 returns-3 refuse-requires-4 returns-4 step-to-requires returns-5)
+head-spec =
+    tie.close
+    (tie.spec
+    with-line-requires
+    cast-if1
+    refuse-requires
+    returns
+    has-line-requires
+    refuse-requires-2
+    returns-2
+    refuse-requires-3
+    returns-3
+    refuse-requires-4
+    returns-4
+    step-to-requires
+    returns-5)

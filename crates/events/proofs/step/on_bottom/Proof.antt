@@ -43,4 +43,14 @@ returns-2 c =
     λ b tall. bottom-out (at-start .args .m) _ _ _ _ _ _ (at-start .pre .0) (at-start .pre .2) (at-start .pre .3) b tall (sym (c .before .before .is-next .ensures) ∙ c .before .if1 .left) (c .refuse .ensures) refl
 
 pub on-bottom-spec : {M : Type 1} → statement M
-on-bottom-spec = tie.close (tie.spec is-next-requires put-requires add-step-to step-to-requires same-length returns refuse-requires returns-2)
+on-bottom-spec =
+    tie.close
+    (tie.spec
+    is-next-requires
+    put-requires
+    add-step-to
+    step-to-requires
+    same-length
+    returns
+    refuse-requires
+    returns-2)

@@ -20,4 +20,11 @@ returns-2 : tie.Need-returns-2
 returns-2 c = record { told = λ a b. outside-end (c .before .before .before .args .m) a b _ (sym (c .before .before .is-inside .ensures) ∙ c .before .if1 .left) (c .pass .ensures) }
 
 pub on-end-spec : {M : Type 1} → statement M
-on-end-spec = tie.close (tie.spec is-inside-requires refuse-requires returns pass-requires returns-2)
+on-end-spec =
+    tie.close
+    (tie.spec
+    is-inside-requires
+    refuse-requires
+    returns
+    pass-requires
+    returns-2)

@@ -1,5 +1,5 @@
 use native.Mathlib.Omega.{arith}
-use mathlib.Core.Path.{refl, sym, ap, _∙_}
+use mathlib.Core.Path.{refl, sym, _∙_}
 use Rattle.events.proofs.Steps.{few-said, still-wide, read-frame, inside-bad, inside-header, inside-bottom, inside-top}
 use borrow.Author.Needs.{needs}
 use Rattle.events.proofs.step.on_inside.Statement.{statement}
@@ -75,4 +75,22 @@ returns-4 c =
     rw (read-frame (at-start .args .text .now) _ _ _ _ refl (at-read-text .read-text .ensures) (at-l2 .l2 .given .1)) (inside-top (at-start .args .m) _ _ (at-start .pre .0) (at-start .pre .1) (at-start .pre .2) _ _ _ _ _ (c .before .on-top .ensures))
 
 pub on-inside-spec : {M : Type 1} → statement M
-on-inside-spec = tie.close (tie.spec read-text-requires enum-told refuse-requires enum-known-o head-requires cut-off-requires enum-known-l on-bottom-requires enum-known-l-2 on-top-requires returns returns-2 same-length returns-3 same-length-2 returns-4)
+on-inside-spec =
+    tie.close
+    (tie.spec
+    read-text-requires
+    enum-told
+    refuse-requires
+    enum-known-o
+    head-requires
+    cut-off-requires
+    enum-known-l
+    on-bottom-requires
+    enum-known-l-2
+    on-top-requires
+    returns
+    returns-2
+    same-length
+    returns-3
+    same-length-2
+    returns-4)

@@ -1,4 +1,4 @@
-use mathlib.Core.Path.{sym, ap, _∙_}
+use mathlib.Core.Path.{sym, _∙_}
 use Rattle.frame.specs.Frame.{textFrame}
 use Rattle.events.proofs.Steps.{outside-stepped}
 use borrow.Author.Needs.{needs}
@@ -34,4 +34,14 @@ returns-2 c =
     outside-stepped (at-start .args .m) _ _ _ (textFrame (at-start .args .text .now)) (sym (c .before .before .before .is-inside .ensures) ∙ c .before .before .if1 .left) (rw (c .before .said-of .ensures) at (c .on-outside .ensures))
 
 pub on-lent-spec : {M : Type 1} → statement M
-on-lent-spec = tie.close (tie.spec is-inside-requires on-inside-requires same-length same-length-2 returns said-of-requires on-outside-requires returns-2)
+on-lent-spec =
+    tie.close
+    (tie.spec
+    is-inside-requires
+    on-inside-requires
+    same-length
+    same-length-2
+    returns
+    said-of-requires
+    on-outside-requires
+    returns-2)

@@ -40,4 +40,18 @@ returns-4 : tie.Need-returns-4
 returns-4 c = c .miss3 .ensures ∙ sym (simp (c .before .enum-told3 .given .1))
 
 pub on-outside-spec : {M : Type 1} → statement M
-on-outside-spec = tie.close (tie.spec enum-told miss-requires enum-known-said head-requires enum-told-2 miss-requires-2 enum-told-3 miss-requires-3 returns returns-2 returns-3 returns-4)
+on-outside-spec =
+    tie.close
+    (tie.spec
+    enum-told
+    miss-requires
+    enum-known-said
+    head-requires
+    enum-told-2
+    miss-requires-2
+    enum-told-3
+    miss-requires-3
+    returns
+    returns-2
+    returns-3
+    returns-4)

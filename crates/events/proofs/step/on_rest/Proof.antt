@@ -21,4 +21,11 @@ returns-2 : tie.Need-returns-2
 returns-2 c = λ a b. outside-stepped (c .before .before .before .args .m) a b _ bad (sym (c .before .before .is-inside .ensures) ∙ c .before .if1 .left) (c .miss .ensures)
 
 pub on-rest-spec : {M : Type 1} → statement M
-on-rest-spec = tie.close (tie.spec is-inside-requires refuse-requires returns miss-requires returns-2)
+on-rest-spec =
+    tie.close
+    (tie.spec
+    is-inside-requires
+    refuse-requires
+    returns
+    miss-requires
+    returns-2)

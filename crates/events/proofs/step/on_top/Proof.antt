@@ -77,4 +77,21 @@ returns-4 c =
     λ a tall. top-early (at-start .args .m) _ _ _ _ _ _ (at-start .pre .0) (at-start .pre .2) (at-start .pre .3) a tall (c .before .if1 .left) (c .refuse2 .ensures) refl
 
 pub on-top-spec : {M : Type 1} → statement M
-on-top-spec = tie.close (tie.spec is-next-requires put-requires add-if3 no-order-requires step-to-requires same-length returns add-step-to step-to-requires-2 same-length-2 returns-2 refuse-requires returns-3 refuse-requires-2 returns-4)
+on-top-spec =
+    tie.close
+    (tie.spec
+    is-next-requires
+    put-requires
+    add-if3
+    no-order-requires
+    step-to-requires
+    same-length
+    returns
+    add-step-to
+    step-to-requires-2
+    same-length-2
+    returns-2
+    refuse-requires
+    returns-3
+    refuse-requires-2
+    returns-4)

@@ -25,17 +25,26 @@ busy-requires : tie.Need-busy-requires Inv-loop μ-loop
 busy-requires c κs = search needs
 
 same-length : tie.Need-same-length Inv-loop μ-loop
-same-length c = c .before .before .before .before .before .before .before .before .before .before .loop .inv .1 ∙ sym (c .before .before .before .before .before .before .before .before .before .before .before .before .before .before .pre)
+same-length c =
+    let at-loop = c .before .before .before .before .before .before .before .before .before .before in
+    let at-start = at-loop .before .before .before .before in
+    at-loop .loop .inv .1 ∙ sym (at-start .pre)
 
 same-length-2 : tie.Need-same-length-2 Inv-loop μ-loop
-same-length-2 c = c .before .before .before .before .before .give .kept .1 .1 .1 .0 ∙ c .before .before .before .before .before .before .before .before .before .before .loop .inv .2
+same-length-2 c =
+    let at-give = c .before .before .before .before .before in
+    let at-loop = at-give .before .before .before .before .before in
+    at-give .give .kept .1 .1 .1 .0 ∙ at-loop .loop .inv .2
 
 returns : tie.Need-returns Inv-loop μ-loop
 returns c =
-    let inv = c .before .before .before .before .before .before .before .before .before .before .loop .inv in
-    let gave = c .before .before .before .before .before .give .ensures in
+    let at-give = c .before .before .before .before .before in
+    let at-loop = at-give .before .before .before .before .before in
+    let at-start = at-loop .before .before .before .before in
+    let inv = at-loop .loop .inv in
+    let gave = at-give .give .ensures in
     record {
-      owed = (λ rest. inv .3 rest ∙ gave-on _ _ _ _ _ _ _ _ _ gave (drop (c .before .before .before .before .before .before .before .before .before .before .loop .used) (c .before .before .before .before .before .before .before .before .before .before .before .before .before .before .args .piece .now) ++ rest));
+      owed = (λ rest. inv .3 rest ∙ gave-on _ _ _ _ _ _ _ _ _ gave (drop (at-loop .loop .used) (at-start .args .piece .now) ++ rest));
       within = inv .0;
       fits = (λ h. let y = inv .4 h in let z = gave .fits (omega (arith, y, inv .2)) in omega (arith, z, inv .2));
       far = λ h. let z = gave .far (sym (c .before .busy .ensures .answer) ∙ c .if1 .taken) in omega (arith, z, inv .2);
@@ -51,29 +60,46 @@ part-take-in-end : tie.Need-part-take-in-end Inv-loop μ-loop
 part-take-in-end c = search needs
 
 take-in-requires : tie.Need-take-in-requires Inv-loop μ-loop
-take-in-requires c κs = c .before .before .before .before .before .before .before .before .before .before .before .before .before .before .loop .inv .1
+take-in-requires c κs =
+    let at-loop = c .before .before .before .before .before .before .before .before .before .before .before .before .before .before in
+    at-loop .loop .inv .1
 
 add-used : tie.Need-add-used Inv-loop μ-loop
 add-used c =
-    let w = used-within (c .before .before .before .before .before .before .before .before .before .before .before .before .before .before .before .before .before .before .before .before .before .before .before .args .piece .now) _ _ (part _ _ (c .before .before .before .before .before .before .before .before .before .before .before .before .before .before .before .before .before .before .before .loop .inv .0)) _ (c .before .before .before .before .before .before .before .before .before .before .before .before .before .before .before .before .before .before .before .loop .inv .0) (c .before .before .before .before .take-in .ensures .within) in
-    omega (arith, w, c .before .before .before .before .before .before .before .before .before .before .before .before .before .before .before .before .before .before .before .before .before .before .before .good)
+    let at-take-in = c .before .before .before .before in
+    let at-loop = at-take-in .before .before .before .before .before .before .before .before .before .before .before .before .before .before .before in
+    let at-start = at-loop .before .before .before .before in
+    let w = used-within (at-start .args .piece .now) _ _ (part _ _ (at-loop .loop .inv .0)) _ (at-loop .loop .inv .0) (at-take-in .take-in .ensures .within) in
+    omega (arith, w, at-start .good)
 
 loop-less : tie.Need-loop-less Inv-loop μ-loop
 loop-less c =
-    let P = c .before .before .before .before .before .before .before .before .before .before .before .before .before .before .before .before .before .before .before .before .before .before .before .args .piece .now in
-    let z = c .before .before .before .before .take-in .ensures .some (sym (c .before .before .before .before .before .before .before .before .before .before .busy .ensures .answer) ∙ c .before .before .before .before .before .before .before .before .before .if1 .left) (left-some P _ _ (part P _ (c .before .before .before .before .before .before .before .before .before .before .before .before .before .before .before .before .before .before .before .loop .inv .0)) (c .before .before .before .before .before .before .before .before .before .before .before .before .before .before .before .before .before .before .loop-test .taken)) in
-    omega (arith, z, c .before .before .before .before .before .before .before .before .before .before .before .before .before .before .before .before .before .before .loop-test .taken)
+    let at-take-in = c .before .before .before .before in
+    let at-if1 = at-take-in .before .before .before .before .before in
+    let at-busy = at-if1 .before in
+    let at-loop-test = at-busy .before .before .before .before .before .before .before .before in
+    let at-loop = at-loop-test .before in
+    let at-start = at-loop .before .before .before .before in
+    let P = at-start .args .piece .now in
+    let z = at-take-in .take-in .ensures .some (sym (at-busy .busy .ensures .answer) ∙ at-if1 .if1 .left) (left-some P _ _ (part P _ (at-loop .loop .inv .0)) (at-loop-test .loop-test .taken)) in
+    omega (arith, z, at-loop-test .loop-test .taken)
 
 loop-again : tie.Need-loop-again Inv-loop μ-loop
 loop-again c =
-    let P = c .before .before .before .before .before .before .before .before .before .before .before .before .before .before .before .before .before .before .before .before .before .before .before .args .piece .now in
-    let inv = c .before .before .before .before .before .before .before .before .before .before .before .before .before .before .before .before .before .before .before .loop .inv in
-    let gave = c .before .before .before .before .before .before .before .before .before .before .before .before .before .before .give in
-    let took = c .before .before .before .before .take-in in
+    let at-take-in = c .before .before .before .before in
+    let at-give = at-take-in .before .before .before .before .before .before .before .before .before .before in
+    let at-loop = at-give .before .before .before .before .before in
+    let at-start = at-loop .before .before .before .before in
+    let P = at-start .args .piece .now in
+    let inv = at-loop .loop .inv in
+    let gave = at-give .give in
+    let took = at-take-in .take-in in
     (used-within P _ _ (part P _ (inv .0)) _ (inv .0) (took .ensures .within), took .kept .0 ∙ inv .1, gave .kept .1 .1 .1 .0 ∙ inv .2, fed-more P _ _ (part P _ (inv .0)) _ _ _ _ _ _ _ _ _ _ _ _ _ _ _ (inv .3) (gave .ensures) (took .ensures), λ h. let y = inv .4 h in let z = gave .ensures .fits (omega (arith, y, inv .2)) in omega (arith, z, inv .2))
 
 same-length-3 : tie.Need-same-length-3 Inv-loop μ-loop
-same-length-3 c = c .before .loop .inv .1 ∙ sym (c .before .before .before .before .before .pre)
+same-length-3 c =
+    let at-start = c .before .before .before .before .before in
+    c .before .loop .inv .1 ∙ sym (at-start .pre)
 
 same-length-4 : tie.Need-same-length-4 Inv-loop μ-loop
 same-length-4 c = c .before .loop .inv .2
@@ -84,4 +110,24 @@ returns-2 c =
     record { owed = inv .3; within = inv .0; fits = inv .4; far = λ h. absurd (omega (arith, c .loop-test .left)) }
 
 pub feed-on-spec : {M : Type 1} → statement M
-feed-on-spec = tie.close (tie.spec Inv-loop μ-loop loop-holds give-requires busy-requires same-length same-length-2 returns sub-take-in part-take-in-start part-take-in-end take-in-requires add-used loop-less loop-again same-length-3 same-length-4 returns-2)
+feed-on-spec =
+    tie.close
+    (tie.spec
+    Inv-loop
+    μ-loop
+    loop-holds
+    give-requires
+    busy-requires
+    same-length
+    same-length-2
+    returns
+    sub-take-in
+    part-take-in-start
+    part-take-in-end
+    take-in-requires
+    add-used
+    loop-less
+    loop-again
+    same-length-3
+    same-length-4
+    returns-2)

@@ -2,7 +2,6 @@ use mathlib.Core.Bool.{true, false}
 use borrow.Author.Tests.{le-leb, lt-leb}
 use Rattle.sheet.specs.Owes.{isBusy}
 use Rattle.sheet.proofs.Steps.{busy-told}
-use borrow.Author.Needs.{needs}
 use Rattle.sheet.proofs.state.busy.Statement.{statement}
 use Rattle.sheet.proofs.state.busy.Tie as tie
 

@@ -23,4 +23,12 @@ returns-2 : tie.Need-returns-2
 returns-2 c = c .owe2 .ensures ∙ simp (c .before .show2 .ensures, ne-eqb _ _ (c .before .before .if1 .left))
 
 pub done-spec : {M : Type 1} → statement M
-done-spec = tie.close (tie.spec show-requires owe-requires returns show-requires-2 owe-requires-2 returns-2)
+done-spec =
+    tie.close
+    (tie.spec
+    show-requires
+    owe-requires
+    returns
+    show-requires-2
+    owe-requires-2
+    returns-2)

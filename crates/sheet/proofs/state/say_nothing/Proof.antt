@@ -1,0 +1,15 @@
+use borrow.Author.Needs.{needs}
+use Rattle.sheet.proofs.state.say_nothing.Statement.{statement}
+use Rattle.sheet.proofs.state.say_nothing.Tie as tie
+
+no-answer-requires : tie.Need-no-answer-requires
+no-answer-requires c κs = search needs
+
+owe-requires : tie.Need-owe-requires
+owe-requires c κs = search needs
+
+returns : tie.Need-returns
+returns c = cc
+
+pub say-nothing-spec : {M : Type 1} → statement M
+say-nothing-spec = tie.close (tie.spec no-answer-requires owe-requires returns)
