@@ -1,37 +1,38 @@
 -- The frames 21: a wire that has come to its top pad's column, and what writing them leaves to write.
-use mathlib.Core.Path.{_≡_, refl, sym, ap, _∙_, subst}
+use mathlib.Core.Path.{_≡_, refl, sym, ap, _∙_}
 use mathlib.Core.Bool.{Bool, true, false, cond, true≢false}
 use mathlib.Core.Logic.{⊎-elim}
-use mathlib.Core.List.{List, [], _∷_, _++_, append-assoc, append-nil}
-use Prim.Native.Nat.{ℕ, zero, suc, _+_, _*_, _-_, _<_, _≤_}
+use mathlib.Core.List.{List, [], _++_, append-assoc, append-nil}
+use Prim.Native.Nat.{ℕ, zero, suc, _+_, _-_, _<_, _≤_}
 use native.Mathlib.Omega.{arith}
-use lib.Dec.{eqb, ltb, leb}
-use lib.ListN.{length, take, drop}
-use lib.IntN.{ℤ, pos, _+ℤ_, _-ℤ_}
-use lib.Signed.{_≤ℤ_, _<ℤ_, ltZ}
+use lib.Dec.{ltb, leb}
+use lib.ListN.{length, take}
+use lib.IntN.{ℤ, pos}
+use lib.Signed.{_≤ℤ_, ltZ}
 use borrow.Author.Tests.{lt-ltb, le-ltb, ltb-true, ltb-false, leb-true, leb-false, eq-eqb, ne-eqb}
 use Rattle.whole.specs.Pick.{differ}
 use Rattle.whole.proofs.Arith.{up, down, arithℤ, sum, dif}
-use Rattle.whole.proofs.Order.{true-lt, false-lt, lt-false}
+use Rattle.whole.proofs.Order.{false-lt, lt-false}
 use Rattle.wiring.specs.Wiring.{pad, topPad}
 use Rattle.wiring.specs.Fit.{Rising}
 use Rattle.wiring.specs.Drawing.{entry, drawn}
 use Rattle.wiring.proofs.Rule.{spread}
-use Rattle.wiring.proofs.Drawing.{Clamped, entry-clamped}
+use Rattle.wiring.proofs.Drawing.{entry-clamped}
 use Rattle.jumper.specs.Refusals.{refusalNumbers}
 use Rattle.jumper.specs.Rows.{checkedNumbers}
-use Rattle.jumper.specs.Asked.{checkAsked}
+use Rattle.jumper.specs.Asked.{checkAsked, Asked}
 use Rattle.jumper.specs.declared.refusal.Numbers.{Numbers}
 use Rattle.jumper.specs.declared.refusal.Refusal.{Refusal}
 use Rattle.jumper.specs.declared.rows.Checked.{Checked}
 use Rattle.jumper.specs.declared.rows.Checked.the-variants.{Accepted, Refused}
 use Rattle.jumper.proofs.Accepted.{number-of, numbered}
+use Rattle.jumper.proofs.Checks.{asked-accepted}
 use Rattle.frame.specs.Written.{moveLine}
-use Rattle.frame.specs.Puts.{puts, LinePut}
+use Rattle.frame.specs.Puts.{LinePut}
 use Rattle.frame.proofs.Puts.{take-puts, move-length}
 use Rattle.frame.specs.declared.write.Move.{Move}
 use Rattle.frame.proofs.Scan.{either}
-use Rattle.route.specs.Moves.{moveText, trackText, wireText, wiresText, routeLeft, isAsked, MovesOut, RouteOut, WireOut, TrackOut}
+use Rattle.route.specs.Moves.{moveText, trackText, wireText, wiresText, routeLeft, isAsked, movesLeft, MovesOut, RouteOut, TrackOut}
 
 -- ---- equal columns
 
@@ -188,3 +189,30 @@ module _ (l s : ℕ) (d : ℤ) (a b : List ℤ) (i t : ℕ) (out : List ℕ) (fr
       let w : checkedNumbers (checkAsked a b s d) ≡ refusalNumbers f = ap checkedNumbers (sym e ∙ z) in
       let y : isAsked a b s d ≡ false = ne-eqb _ _ (λ h. numbered f (ap (λ (k : Numbers). k .refusal) (sym w) ∙ h)) in
       record { gave = simp y; fits = (λ h. h); far = λ h. absurd (omega arith) }
+
+-- ---- the whole route, and none
+
+from-start : (l s : ℕ) (d : ℤ) (a b : List ℤ) → routeLeft l s d a b 0 0 ≡ wiresText l (drawn (length a) (pad a) (topPad b d)) s 0 (length a)
+unfolding routeLeft wiresText
+from-start l s d a b = go (length a) (drawn (length a) (pad a) (topPad b d))
+  where
+    go : (n : ℕ) (e : ℕ → ℕ → ℤ) → cond (ltb 0 n) (wireText l e 0 0 (s - 0) ++ wiresText l e s (0 + 1) (n - (0 + 1))) [] ≡ wiresText l e s 0 n
+    go zero e = refl
+    go (suc n) e =
+        let p : s - 0 ≡ s = omega arith in
+        let q : suc n - 1 ≡ n = omega arith in
+        simp (lt-ltb 0 (suc n) (omega arith)) (ap (λ (x : ℕ). wireText l e 0 0 x ++ wiresText l e s 1 (suc n - 1)) p ∙ ap (λ (x : ℕ). wireText l e 0 0 s ++ wiresText l e s 1 x) q)
+
+-- the frames of accepted rows from the start are those of all wires
+pub whole-route : (l s : ℕ) (d : ℤ) (a b : List ℤ) → Asked a b s d → movesLeft l s d a b 0 0 ≡ wiresText l (drawn (length a) (pad a) (topPad b d)) s 0 (length a)
+whole-route l s d a b k =
+    let y : isAsked a b s d ≡ true = eq-eqb _ _ (number-of (checkAsked a b s d) (asked-accepted a b s d k)) in
+    simp y (from-start l s d a b)
+
+-- past the last wire there are none
+pub no-moves : (l s : ℕ) (d : ℤ) (a b : List ℤ) (i t : ℕ) → length a ≤ i → movesLeft l s d a b i t ≡ []
+no-moves l s d a b i t h = go (isAsked a b s d)
+  where
+    go : (x : Bool) → cond x (routeLeft l s d a b i t) [] ≡ []
+    go true = route-end l s d a b i t h
+    go false = refl

@@ -1,5 +1,4 @@
 // The frames 21 of a route, written as lines (01, "Sheets"): worked out as they are written, so that no table of the route is kept.
-ghost use mathlib.Core.Path.{_≡_};
 ghost use Prim.Native.Nat.{_<_};
 ghost use lib.ListN.{length};
 ghost use Rattle.jumper.specs.Asked.{Asked};

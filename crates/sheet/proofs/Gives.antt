@@ -1,29 +1,22 @@
 -- What is still to write, part by part.
-use mathlib.Core.Path.{_≡_, refl, sym, ap, _∙_, subst}
-use mathlib.Core.Bool.{Bool, true, false, cond, true≢false}
-use mathlib.Core.List.{List, [], _∷_, _++_, append-assoc, append-nil}
-use Prim.Native.Nat.{ℕ, zero, suc, _+_, _*_, _-_, _<_, _≤_}
+use mathlib.Core.Path.{_≡_, refl, sym, ap, _∙_}
+use mathlib.Core.Bool.{Bool, true, false, true≢false}
+use mathlib.Core.List.{List, _++_, append-assoc}
+use Prim.Native.Nat.{ℕ, _+_, _-_, _<_, _≤_}
 use native.Mathlib.Omega.{arith}
-use lib.Dec.{eqb, ltb, leb}
-use lib.ListN.{length, take, drop}
+use lib.Dec.{leb}
+use lib.ListN.{length, take}
 use lib.Seq.{length-take-le}
 use lib.IntN.{ℤ}
-use borrow.Author.Tests.{lt-ltb, le-ltb, le-leb, lt-leb, ltb-true, ltb-false, leb-true, leb-false, eq-eqb, ne-eqb}
+use borrow.Author.Tests.{le-leb, lt-leb, ltb-true, leb-true, leb-false}
 use Rattle.jumper.specs.Refusals.{refusalNumbers}
-use Rattle.jumper.specs.declared.refusal.Numbers.{Numbers}
-use Rattle.jumper.specs.declared.refusal.Refusal.{Refusal}
 use Rattle.jumper.specs.declared.refusal.Refusal.the-variants.{Sequence}
-use Rattle.jumper.specs.declared.rows.Checked.{Checked}
-use Rattle.jumper.specs.declared.rows.Checked.the-variants.{Accepted, Refused}
-use Rattle.jumper.proofs.Accepted.{number-of, numbered}
-use Rattle.jumper.specs.Rows.{checkedNumbers}
-use Rattle.jumper.specs.Asked.{checkAsked}
 use Rattle.frame.specs.Written.{answerLine}
-use Rattle.frame.specs.Puts.{puts, LinePut}
+use Rattle.frame.specs.Puts.{LinePut}
 use Rattle.frame.proofs.Puts.{take-puts, answer-length}
 use Rattle.frame.specs.declared.write.Answer.{Answer}
 use Rattle.sheet.specs.Machine.{shown, refusalText}
-use Rattle.sheet.specs.Owes.{cutText, dueText, leftText, pending, later, isBusy, Given}
+use Rattle.sheet.specs.Owes.{dueText, leftText, pending, later, isBusy, Given}
 use Rattle.sheet.specs.Parts.{GivenOn, CutGiven, DueGiven}
 use Rattle.sheet.specs.declared.state.State.{State}
 use Rattle.frame.proofs.Scan.{either}

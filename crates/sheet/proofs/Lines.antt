@@ -1,16 +1,16 @@
 -- Lines, texts and frames: what keeping the bytes of a line comes to.
 use mathlib.Core.Path.{_≡_, refl, sym, ap, _∙_}
-use mathlib.Core.Bool.{Bool, true, false, cond}
-use mathlib.Core.Logic.{_⊎_, inl, inr, ⊎-elim}
+use mathlib.Core.Bool.{false}
+use mathlib.Core.Logic.{_⊎_, ⊎-elim}
 use mathlib.Core.List.{List, [], _∷_, _++_, map, append-assoc, append-nil}
-use Prim.Native.Nat.{ℕ, zero, suc, _+_, _*_, _-_, _<_, _≤_}
+use Prim.Native.Nat.{ℕ, suc, _+_, _-_, _<_, _≤_}
 use native.Mathlib.Numerals.{add-one}
 use native.Mathlib.Omega.{arith}
 use lib.Dec.{eqb, ltb}
 use lib.ListN.{length, getD, drop, take, set, length-set, length-append, length-drop, take-append-drop, drop-of-length-le}
 use lib.Seq.{drop-cons, take-suc-set, take-all, drop-drop, getD-take, getD-drop, length-take-le}
-use borrow.Author.Tests.{eq-eqb, ne-eqb, eqb-false, eqb-true, ltb-true, ltb-false}
-use Rattle.frame.specs.Frame.{Frame, bad, textFrame, isFed, frameOf}
+use borrow.Author.Tests.{ne-eqb, eqb-false, eqb-true, ltb-true, ltb-false}
+use Rattle.frame.specs.Frame.{Frame, textFrame, isFed, frameOf}
 use Rattle.frame.proofs.Scan.{either, below-or}
 use Rattle.frame.proofs.Frames.{long-bad, fed-frame, fed-last, unfed-bad}
 use Rattle.events.specs.Lines.{lastLine, linesFrom, linesOf}

@@ -6,19 +6,14 @@ use mathlib.Core.List.{List, [], _∷_, _++_, append-nil}
 use Prim.Native.Nat.{ℕ, zero, suc, _+_, _-_, _<_, _≤_}
 use native.Mathlib.Numerals.{add-one}
 use native.Mathlib.Omega.{arith}
-use lib.Dec.{eqb, ltb, leb}
+use lib.Dec.{eqb, leb}
 use lib.ListN.{length, drop, take, length-take}
 use lib.Seq.{drop-cons}
 use lib.IntN.{ℤ}
-use borrow.Author.Tests.{lt-ltb, le-ltb, le-leb, eq-eqb, eqb-true, ltb-false}
+use borrow.Author.Tests.{le-leb, eqb-true, ltb-false}
 use Rattle.jumper.specs.Refusals.{refusalNumbers}
-use Rattle.jumper.specs.Asked.{Asked, checkAsked}
 use Rattle.jumper.specs.declared.refusal.Numbers.{Numbers}
 use Rattle.jumper.specs.declared.refusal.Refusal.the-variants.{Sequence}
-use Rattle.jumper.proofs.Accepted.{number-of}
-use Rattle.jumper.proofs.Checks.{asked-accepted}
-use Rattle.wiring.specs.Wiring.{pad, topPad}
-use Rattle.wiring.specs.Drawing.{drawn}
 use Rattle.frame.specs.Frame.{Frame, bad, textFrame}
 use Rattle.frame.specs.Written.{answerLine}
 use Rattle.frame.specs.declared.read.Order.{Order}
@@ -30,7 +25,7 @@ use Rattle.events.specs.declared.step.Did.{Did}
 use Rattle.events.specs.declared.step.Did.the-variants.{Opened, Filled, Completed, Refused, Passed}
 use Rattle.events.specs.declared.step.Step.{Step}
 use Rattle.events.proofs.Agree.{events-agree}
-use Rattle.route.specs.Moves.{wireText, wiresText, routeLeft, isAsked}
+use Rattle.route.proofs.Texts.{whole-route, no-moves}
 use Rattle.sheet.specs.Planned.{planned, PlanTold}
 use Rattle.sheet.specs.Machine.{shown, refusalText, lineText, textOf, told, answers}
 use Rattle.sheet.specs.Steps.{complete, after}
@@ -40,21 +35,6 @@ use Rattle.sheet.specs.declared.state.State.{State}
 use Rattle.sheet.proofs.Lines.{sheet-frames}
 
 -- ---- what a state has to write
-
--- a route from its start is all of it
-whole-route : (l s : ℕ) (d : ℤ) (a b : List ℤ) → routeLeft l s d a b 0 0 ≡ wiresText l (drawn (length a) (pad a) (topPad b d)) s 0 (length a)
-unfolding routeLeft wiresText
-whole-route l s d a b = go (length a) (drawn (length a) (pad a) (topPad b d))
-  where
-    go : (n : ℕ) (e : ℕ → ℕ → ℤ) → cond (ltb 0 n) (wireText l e 0 0 (s - 0) ++ wiresText l e s (0 + 1) (n - (0 + 1))) [] ≡ wiresText l e s 0 n
-    go zero e = refl
-    go (suc n) e =
-        let p : s - 0 ≡ s = omega arith in
-        let q : suc n - 1 ≡ n = omega arith in
-        simp (lt-ltb 0 (suc n) (omega arith)) (ap (λ (x : ℕ). wireText l e 0 0 x ++ wiresText l e s 1 (suc n - 1)) p ∙ ap (λ (x : ℕ). wireText l e 0 0 s ++ wiresText l e s 1 x) q)
-
-asked-true : (a b : List ℤ) (s : ℕ) (d : ℤ) → Asked a b s d → isAsked a b s d ≡ true
-asked-true a b s d h = eq-eqb _ _ (number-of (checkAsked a b s d) (asked-accepted a b s d h))
 
 -- the answer of a line, and its route from the start
 abbrev lineLeft : Step → Order → Numbers → (a b : List ℤ) → List ℕ
@@ -69,8 +49,7 @@ complete-text t o a b k small plan =
     rw (sym (plan .is))
     (either (eqb (k .refusal) 0)
     (λ e.
-    let q = asked-true A B (k .separation) (k .lowest) (plan .asked (eqb-true _ _ e)) in
-    simp (e, le-leb _ _ small, q, whole-route (o .line) (k .separation) (k .lowest) A B))
+    simp (e, le-leb _ _ small, whole-route (o .line) (k .separation) (k .lowest) A B (plan .asked (eqb-true _ _ e))))
     (λ e. simp e))
 
 -- ---- a step
@@ -152,12 +131,8 @@ full-text zero line h n = absurd (n refl)
 full-text (suc at) [] h n = absurd (omega arith)
 full-text (suc at) (x ∷ line) h n = refl
 
-always : (t : Bool) → _≡_ {A = List ℕ} (cond t [] []) []
-always true = refl
-always false = refl
-
 pub not-busy : (s : State) (a b : List ℤ) → isBusy s ≡ false → pending s a b ≡ []
-unfolding isBusy pending leftText routeLeft
+unfolding isBusy pending leftText
 not-busy s a b e =
     either (s .cut) (λ c. absurd (true≢false (sym (simp c) ∙ e)))
     (λ c. either (s .due) (λ d. absurd (true≢false (sym (simp (c, d)) ∙ e)))
@@ -165,7 +140,7 @@ not-busy s a b e =
     (λ w.
     let u : s .wires ≤ s .wire = ltb-false (s .wire) (s .wires) (simp (c, d, w) at e) in
     let n : length (take (s .wires) a) ≤ s .wire = simp length-take (omega arith) in
-    simp (c, d, w, le-ltb _ _ n, always (isAsked (take (s .wires) a) (take (s .wires) b) (s .answer .separation) (s .answer .lowest))))
+    simp (c, d, w, no-moves (s .answer .line) (s .answer .separation) (s .answer .lowest) (take (s .wires) a) (take (s .wires) b) (s .wire) (s .track) n))
     (λ w. simp (c, d, w))))
 
 pub busy-told : (s : State) (r : Bool) → r ≡ isBusy s → Busy s r

@@ -1,6 +1,5 @@
-use borrow.Author.Needs.{needs}
 use native.Mathlib.Omega.{arith}
-use mathlib.Core.Path.{_≡_, refl, sym, _∙_}
+use mathlib.Core.Path.{_≡_, refl, _∙_}
 use mathlib.Core.List.{_++_}
 use Prim.Native.Nat.{_-_, _+_, _≤_}
 use lib.ListN.{length, take}
@@ -8,7 +7,7 @@ use mir.Syntax.{w32}
 use mir.Val.{toZ, ofZ}
 use mir.ValLaws.{toZ-ofZ}
 use Rattle.route.specs.Moves.{routeLeft}
-use Rattle.route.proofs.Texts.{route-more, route-stop, route-end}
+use Rattle.route.proofs.Texts.{route-more, route-stop}
 use Rattle.route.proofs.moves.give_wires.Statement.{statement}
 use Rattle.route.proofs.moves.give_wires.Tie as tie
 
