@@ -42,7 +42,19 @@ loop-less : tie.Need-loop-less Inv-loop μ-loop
 loop-less c = search needs
 
 loop-again : tie.Need-loop-again Inv-loop μ-loop
-loop-again c = (search needs, simp length-set (c .before .before .loop .inv .1), c .before .before .loop .inv .2 ∙ puts-more _ _ (pos 0) _ _ _ (let n = length-take-le (c .before .before .before .args .k) (c .before .before .before .args .columns .now) (c .before .before .before .pre .0) in omega (arith, c .before .loop-test .taken)) (back (getD (c .before .before .before .args .columns .now) (c .before .before .loop .j) (pos 0)) (c .row .given) ∙ sym (getD-take (c .before .before .before .args .k) (c .before .before .before .args .columns .now) (c .before .before .loop .j) (pos 0) (c .before .loop-test .taken))))
+loop-again c =
+    let at-test = c .before in
+    let at-loop = at-test .before in
+    let at-start = at-loop .before in
+    let l = at-loop .loop in
+    let columns = at-start .args .columns .now in
+    let k = at-start .args .k in
+    let n = length-take-le k columns (at-start .pre .0) in (
+      omega (arith, at-test .loop-test .taken),
+      simp length-set (l .inv .1),
+      l .inv .2 ∙ puts-more _ _ (pos 0) _ _ _ (omega (arith, at-test .loop-test .taken))
+          (back (getD columns (l .j) (pos 0)) (c .row .given) ∙ sym (getD-take k columns (l .j) (pos 0) (at-test .loop-test .taken))),
+    )
 
 same-length : tie.Need-same-length Inv-loop μ-loop
 same-length c = c .before .loop .inv .1

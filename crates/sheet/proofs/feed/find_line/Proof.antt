@@ -28,7 +28,10 @@ same-length : tie.Need-same-length
 same-length c = search needs
 
 returns-2 : tie.Need-returns-2
-returns-2 c = goes-on _ _ _ (c .before .before .before .before .before .before .line-end .ensures) _ _ _ _ (c .before .before .keep .ensures) (⊎-elim (λ w h e. omega (arith, w .1 .left)) (λ w h e. w .left e) (c .before .before .before .before .before .if1 .came))
+returns-2 c =
+    let at-if1 = c .before .before .before .before .before in
+    let at-line-end = at-if1 .before in
+    goes-on _ _ _ (at-line-end .line-end .ensures) _ _ _ _ (c .before .before .keep .ensures) (⊎-elim (λ w h e. omega (arith, w .1 .left)) (λ w h e. w .left e) (at-if1 .if1 .came))
 
 pub find-line-spec : {M : Type 1} → statement M
 find-line-spec =

@@ -31,13 +31,29 @@ loop-less : tie.Need-loop-less Inv-loop μ-loop
 loop-less c = search needs
 
 loop-again : tie.Need-loop-again Inv-loop μ-loop
-loop-again c = (search needs, (let g = stored-grown _ _ _ _ _ (c .before .before .store .ensures) in omega (arith, c .before .before .before .before .before .before .loop .inv .1)), length-kept _ _ _ _ _ (c .before .before .store .ensures) ∙ c .before .before .before .before .before .before .loop .inv .2, λ none. kept-more (λ rest. framesFrom (take (c .before .before .before .before .before .before .before .before .before .args .at) (c .before .before .before .before .before .before .before .before .before .args .line .now)) (c .before .before .before .before .before .before .before .before .before .args .bytes .now ++ rest)) (c .before .before .before .before .before .before .loop .line) (c .before .before .store .last .0) (c .before .before .before .before .before .before .before .before .before .args .bytes .now) (c .before .before .before .before .before .before .loop .n) (c .before .before .store .result) (c .before .before .before .before .before .before .loop .i) (c .before .before .before .before .before .loop-test .taken) (c .before .before .before .before .before .before .loop .inv .3 none) (byte-kept _ _ _ (none (c .before .before .before .before .before .before .loop .i) (c .before .before .before .before .before .loop-test .taken)) (c .before .before .before .before .before .before .loop .inv .2 ∙ c .before .before .before .before .before .before .before .before .before .pre) _ _ (c .before .before .store .ensures)))
+loop-again c =
+    let at-store = c .before .before in
+    let at-test = at-store .before .before .before in
+    let at-loop = at-test .before in
+    let at-start = at-loop .before .before .before in
+    let l = at-loop .loop in
+    let w = at-store .store in
+    let bytes = at-start .args .bytes .now in (
+      omega (arith, at-test .loop-test .taken),
+      (let g = stored-grown _ _ _ _ _ (w .ensures) in omega (arith, l .inv .1)),
+      length-kept _ _ _ _ _ (w .ensures) ∙ l .inv .2,
+      λ none. kept-more (λ rest. framesFrom (take (at-start .args .at) (at-start .args .line .now)) (bytes ++ rest)) (l .line) (w .last .0) bytes (l .n) (w .result) (l .i)
+          (at-test .loop-test .taken) (l .inv .3 none)
+          (byte-kept _ _ _ (none (l .i) (at-test .loop-test .taken)) (l .inv .2 ∙ at-start .pre) _ _ (w .ensures)),
+    )
 
 same-length : tie.Need-same-length Inv-loop μ-loop
 same-length c = c .before .loop .inv .2
 
 returns : tie.Need-returns Inv-loop μ-loop
-returns c = record { frames = λ none. kept-end (λ rest. framesFrom (take (c .before .before .before .before .args .at) (c .before .before .before .before .args .line .now)) (c .before .before .before .before .args .bytes .now ++ rest)) (c .before .loop .line) (c .before .before .before .before .args .bytes .now) (c .before .loop .n) (c .before .loop .i) (c .loop-test .left) (c .before .loop .inv .3 none); grown = c .before .loop .inv .1 }
+returns c =
+    let at-start = c .before .before .before .before in
+    record { frames = λ none. kept-end (λ rest. framesFrom (take (at-start .args .at) (at-start .args .line .now)) (at-start .args .bytes .now ++ rest)) (c .before .loop .line) (at-start .args .bytes .now) (c .before .loop .n) (c .before .loop .i) (c .loop-test .left) (c .before .loop .inv .3 none); grown = c .before .loop .inv .1 }
 
 pub keep-spec : {M : Type 1} → statement M
 keep-spec =

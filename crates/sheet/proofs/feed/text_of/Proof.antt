@@ -25,7 +25,9 @@ returns-2 : tie.Need-returns-2
 returns-2 c = sym (simp (ne-eqb _ _ (c .before .before .if1 .left)))
 
 returns-3 : tie.Need-returns-3
-returns-3 c = sym (simp (ne-eqb _ _ (c .before .if1 .left)) (take-all (c .before .before .args .at) (c .before .before .args .line .now) (omega (arith, c .if2 .left))))
+returns-3 c =
+    let at-start = c .before .before in
+    sym (simp (ne-eqb _ _ (c .before .if1 .left)) (take-all (at-start .args .at) (at-start .args .line .now) (omega (arith, c .if2 .left))))
 
 pub text-of-spec : {M : Type 1} → statement M
 text-of-spec =

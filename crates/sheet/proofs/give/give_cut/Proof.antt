@@ -18,16 +18,25 @@ same-length : tie.Need-same-length
 same-length c = search needs
 
 returns : tie.Need-returns
-returns c = cut-full (c .before .before .before .before .before .before .before .before .before .args .s) (c .before .before .before .before .before .before .before .before .before .args .out .now) (c .before .before .before .before .before .before .before .before .before .args .at) _ _ _ (c .before .before .before .put-answer .ensures) (c .if2 .taken)
+returns c =
+    let at-start = c .before .before .before .before .before .before .before .before .before in
+    cut-full (at-start .args .s) (at-start .args .out .now) (at-start .args .at) _ _ _ (c .before .before .before .put-answer .ensures) (c .if2 .taken)
 
 same-length-2 : tie.Need-same-length-2
 same-length-2 c = search needs
 
 returns-2 : tie.Need-returns-2
-returns-2 c = cut-put (c .before .before .before .before .before .before .before .before .before .args .s) (c .before .before .before .before .before .before .before .before .before .args .out .now) (c .before .before .before .before .before .before .before .before .before .args .at) _ _ _ (c .before .before .before .before .before .before .before .if1 .taken) (c .before .before .before .before .show .ensures ∙ ap (shown (c .before .before .before .before .before .before .before .before .before .args .s .former)) (c .before .before .before .before .before .numbers .ensures)) (c .before .before .before .put-answer .ensures) (c .if2 .left)
+returns-2 c =
+    let at-show = c .before .before .before .before in
+    let at-numbers = at-show .before in
+    let at-if1 = at-numbers .before .before in
+    let at-start = at-if1 .before .before in
+    cut-put (at-start .args .s) (at-start .args .out .now) (at-start .args .at) _ _ _ (at-if1 .if1 .taken) (at-show .show .ensures ∙ ap (shown (at-start .args .s .former)) (at-numbers .numbers .ensures)) (c .before .before .before .put-answer .ensures) (c .if2 .left)
 
 returns-3 : tie.Need-returns-3
-returns-3 c = cut-none (c .before .before .args .s) (c .before .before .args .out .now) (c .before .before .args .at) (c .if1 .left)
+returns-3 c =
+    let at-start = c .before .before in
+    cut-none (at-start .args .s) (at-start .args .out .now) (at-start .args .at) (c .if1 .left)
 
 pub give-cut-spec : {M : Type 1} → statement M
 give-cut-spec =

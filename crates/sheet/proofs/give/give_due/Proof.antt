@@ -10,16 +10,23 @@ same-length : tie.Need-same-length
 same-length c = search needs
 
 returns : tie.Need-returns
-returns c = due-full (c .before .before .before .before .before .before .before .before .args .s) (c .before .before .before .before .before .before .before .before .args .out .now) (c .before .before .before .before .before .before .before .before .args .at) _ _ (c .before .before .before .before .before .before .before .before .pre) (c .before .before .before .put-answer .ensures) (c .if2 .taken)
+returns c =
+    let at-start = c .before .before .before .before .before .before .before .before in
+    due-full (at-start .args .s) (at-start .args .out .now) (at-start .args .at) _ _ (at-start .pre) (c .before .before .before .put-answer .ensures) (c .if2 .taken)
 
 same-length-2 : tie.Need-same-length-2
 same-length-2 c = search needs
 
 returns-2 : tie.Need-returns-2
-returns-2 c = due-put (c .before .before .before .before .before .before .before .before .args .s) (c .before .before .before .before .before .before .before .before .args .out .now) (c .before .before .before .before .before .before .before .before .args .at) _ _ (c .before .before .before .before .before .before .before .before .pre) (c .before .before .before .before .before .before .if1 .taken) (c .before .before .before .put-answer .ensures) (c .if2 .left)
+returns-2 c =
+    let at-if1 = c .before .before .before .before .before .before in
+    let at-start = at-if1 .before .before in
+    due-put (at-start .args .s) (at-start .args .out .now) (at-start .args .at) _ _ (at-start .pre) (at-if1 .if1 .taken) (c .before .before .before .put-answer .ensures) (c .if2 .left)
 
 returns-3 : tie.Need-returns-3
-returns-3 c = due-none (c .before .before .args .s) (c .before .before .args .out .now) (c .before .before .args .at) (c .before .before .pre) (c .if1 .left)
+returns-3 c =
+    let at-start = c .before .before in
+    due-none (at-start .args .s) (at-start .args .out .now) (at-start .args .at) (at-start .pre) (c .if1 .left)
 
 pub give-due-spec : {M : Type 1} → statement M
 give-due-spec =

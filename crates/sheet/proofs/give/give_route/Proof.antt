@@ -11,7 +11,9 @@ slice-aggregate-give-moves : tie.Need-slice-aggregate-give-moves
 slice-aggregate-give-moves c = sym (length-take-le _ _ (c .before .before .before .pre .2))
 
 slice-aggregate-give-moves-2 : tie.Need-slice-aggregate-give-moves-2
-slice-aggregate-give-moves-2 c = sym (length-take-le _ _ (c .before .before .before .before .pre .3))
+slice-aggregate-give-moves-2 c =
+    let at-start = c .before .before .before .before in
+    sym (length-take-le _ _ (at-start .pre .3))
 
 give-moves-requires : tie.Need-give-moves-requires
 give-moves-requires c κs = search needs
@@ -21,8 +23,9 @@ same-length c = search needs
 
 returns : tie.Need-returns
 returns c =
-    let e = toZ-ofZ w32 (c .before .before .before .before .before .before .before .before .before .args .s .answer .lowest) (record { sfits = c .before .before .before .struct-told .given .1 .1 .1 .0 .1 }) in
-    route-given (c .before .before .before .before .before .before .before .before .before .args .s) _ _ _ _ (c .before .before .before .before .before .before .before .before .before .pre .0) (c .before .before .before .before .before .before .before .before .before .pre .1) (c .before .before .before .before .before .before .before .before .before .pre .2) (c .before .before .before .before .before .before .before .before .before .pre .4) _ _ _ _ (rw e at (c .before .before .give-moves .ensures))
+    let at-start = c .before .before .before .before .before .before .before .before .before in
+    let e = toZ-ofZ w32 (at-start .args .s .answer .lowest) (record { sfits = c .before .before .before .struct-told .given .1 .1 .1 .0 .1 }) in
+    route-given (at-start .args .s) _ _ _ _ (at-start .pre .0) (at-start .pre .1) (at-start .pre .2) (at-start .pre .4) _ _ _ _ (rw e at (c .before .before .give-moves .ensures))
 
 pub give-route-spec : {M : Type 1} → statement M
 give-route-spec =

@@ -19,7 +19,9 @@ shared-slice-read-if1 : tie.Need-shared-slice-read-if1 Inv-loop μ-loop
 shared-slice-read-if1 c = search needs
 
 returns : tie.Need-returns Inv-loop μ-loop
-returns c = record { ahead = c .before .before .before .loop .inv .0; within = c .before .before .before .loop .inv .1; feed = λ _. c .if1 .taken; none = c .before .before .before .loop .inv .2 }
+returns c =
+    let at-loop = c .before .before .before in
+    record { ahead = at-loop .loop .inv .0; within = at-loop .loop .inv .1; feed = λ _. c .if1 .taken; none = at-loop .loop .inv .2 }
 
 add-i : tie.Need-add-i Inv-loop μ-loop
 add-i c = search needs
@@ -28,7 +30,10 @@ loop-less : tie.Need-loop-less Inv-loop μ-loop
 loop-less c = search needs
 
 loop-again : tie.Need-loop-again Inv-loop μ-loop
-loop-again c = (omega (arith, c .before .before .before .loop .inv .0), omega (arith, c .before .before .loop-test .taken), clear-more (c .before .before .before .before .args .piece .now) _ _ (c .if1 .left) (c .before .before .before .loop .inv .2))
+loop-again c =
+    let at-loop = c .before .before .before in
+    let at-start = at-loop .before in
+    (omega (arith, at-loop .loop .inv .0), omega (arith, c .before .before .loop-test .taken), clear-more (at-start .args .piece .now) _ _ (c .if1 .left) (at-loop .loop .inv .2))
 
 returns-2 : tie.Need-returns-2 Inv-loop μ-loop
 returns-2 c = record { ahead = c .before .loop .inv .0; within = c .before .loop .inv .1; feed = λ h. absurd (omega (arith, c .loop-test .left)); none = c .before .loop .inv .2 }

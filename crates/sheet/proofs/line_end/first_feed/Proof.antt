@@ -32,7 +32,9 @@ loop-less : tie.Need-loop-less Inv-loop μ-loop
 loop-less c = search needs
 
 loop-again : tie.Need-loop-again Inv-loop μ-loop
-loop-again c = nearest-more _ _ _ _ _ (c .before .before .before .loop-test .taken) (c .before .spot .ensures) (c .nearer .ensures) (c .before .before .before .before .loop .inv)
+loop-again c =
+    let at-loop = c .before .before .before .before in
+    nearest-more _ _ _ _ _ (c .before .before .before .loop-test .taken) (c .before .spot .ensures) (c .nearer .ensures) (at-loop .loop .inv)
 
 returns : tie.Need-returns Inv-loop μ-loop
 returns c = nearest-end _ _ _ (c .before .before .before .pre) (c .loop-test .left) (c .before .loop .inv)

@@ -32,7 +32,9 @@ part-first-feed-end : tie.Need-part-first-feed-end Inv-loop μ-loop
 part-first-feed-end c = search needs
 
 first-feed-requires : tie.Need-first-feed-requires Inv-loop μ-loop
-first-feed-requires c κs = run-length (c .before .before .before .before .args .piece .now) (c .before .before .loop .i) (omega (arith, c .before .loop-test .taken))
+first-feed-requires c κs =
+    let at-start = c .before .before .before .before in
+    run-length (at-start .args .piece .now) (c .before .before .loop .i) (omega (arith, c .before .loop-test .taken))
 
 cast-result : tie.Need-cast-result Inv-loop μ-loop
 cast-result c = search needs
@@ -41,7 +43,10 @@ add-result : tie.Need-add-result Inv-loop μ-loop
 add-result c = search needs
 
 returns : tie.Need-returns Inv-loop μ-loop
-returns c = run-feed (c .before .before .before .before .before .before .args .piece .now) _ (c .before .before .before .before .loop .i) _ (omega (arith, c .before .before .before .loop-test .taken)) (c .before .before .before .before .loop .inv .0) (c .before .before .before .before .loop .inv .2) (c .before .first-feed .ensures) (c .if1 .taken)
+returns c =
+    let at-loop = c .before .before .before .before in
+    let at-start = at-loop .before .before in
+    run-feed (at-start .args .piece .now) _ (at-loop .loop .i) _ (omega (arith, c .before .before .before .loop-test .taken)) (at-loop .loop .inv .0) (at-loop .loop .inv .2) (c .before .first-feed .ensures) (c .if1 .taken)
 
 add-i : tie.Need-add-i Inv-loop μ-loop
 add-i c = search needs
@@ -50,13 +55,19 @@ loop-less : tie.Need-loop-less Inv-loop μ-loop
 loop-less c = search needs
 
 loop-again : tie.Need-loop-again Inv-loop μ-loop
-loop-again c = (omega (arith, c .before .before .before .before .loop .inv .0), omega (arith, c .before .before .before .loop-test .taken), run-clear (c .before .before .before .before .before .before .args .piece .now) _ (c .before .before .before .before .loop .i) _ (omega (arith, c .before .before .before .loop-test .taken)) (c .before .before .before .before .loop .inv .0) (c .before .before .before .before .loop .inv .2) (c .before .first-feed .ensures) (c .if1 .left))
+loop-again c =
+    let at-loop-test = c .before .before .before in
+    let at-loop = at-loop-test .before in
+    let at-start = at-loop .before .before in
+    (omega (arith, at-loop .loop .inv .0), omega (arith, at-loop-test .loop-test .taken), run-clear (at-start .args .piece .now) _ (at-loop .loop .i) _ (omega (arith, at-loop-test .loop-test .taken)) (at-loop .loop .inv .0) (at-loop .loop .inv .2) (c .before .first-feed .ensures) (c .if1 .left))
 
 feed-from-requires : tie.Need-feed-from-requires Inv-loop μ-loop
 feed-from-requires c κs = search needs
 
 returns-2 : tie.Need-returns-2 Inv-loop μ-loop
-returns-2 c = clear-on _ _ _ _ (c .before .before .loop .inv .0) (c .before .before .loop .inv .2) (c .feed-from .ensures)
+returns-2 c =
+    let at-loop = c .before .before in
+    clear-on _ _ _ _ (at-loop .loop .inv .0) (at-loop .loop .inv .2) (c .feed-from .ensures)
 
 pub line-end-spec : {M : Type 1} → statement M
 line-end-spec =

@@ -25,9 +25,10 @@ plan-requires c κs = search needs
 returns : tie.Need-returns
 unfolding planned
 returns c =
-    let e = toZ-ofZ w32 (c .before .before .before .before .args .offset) (c .before .before .before .before .fits .offset) in
+    let at-start = c .before .before .before .before in
+    let e = toZ-ofZ w32 (at-start .args .offset) (at-start .fits .offset) in
     record {
-      is = c .plan .ensures .answer ∙ ap (λ (w : Wish). planOf w (take (c .before .before .before .before .args .n) (c .before .before .before .before .args .a .now)) (take (c .before .before .before .before .args .n) (c .before .before .before .before .args .b .now))) (rw e at (c .before .before .before .wish-of .ensures));
+      is = c .plan .ensures .answer ∙ ap (λ (w : Wish). planOf w (take (at-start .args .n) (at-start .args .a .now)) (take (at-start .args .n) (at-start .args .b .now))) (rw e at (c .before .before .before .wish-of .ensures));
       asked = λ h. c .plan .ensures .drawable h .0;
     }
 
