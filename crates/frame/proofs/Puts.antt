@@ -1,21 +1,24 @@
 -- Runs of stores: a line's digits, a row's columns.
--- Sections: stores in general; a frame's line, byte by byte; its sum; columns.
+-- Sections: stores in general; a frame's line, byte by byte; the sixteen digits; a frame's bytes, field by field; columns.
 use lib.IntN.{ℤ, pos}
 use mathlib.Core.Path.{_≡_, refl, sym, ap, _∙_, subst}
 use mathlib.Core.List.{List, [], _∷_, _++_, append-assoc, append-nil}
-use Prim.Native.Nat.{ℕ, zero, suc, _+_, _*_, _-_, _/_, _%_, _<_, _≤_}
+use Prim.Native.Nat.{ℕ, zero, suc, _+_, _*_, _-_, _^_, _%_, _<_, _≤_}
 use native.Mathlib.Numerals.{add-one}
 use native.Mathlib.Omega.{arith}
 use lib.ListN.{length, getD, drop, take, set, length-set, length-append, drop-of-length-le}
-use lib.Seq.{drop-cons, take-suc-set}
+use lib.Seq.{drop-cons, take-suc-set, length-take-le}
 use Rattle.frame.specs.Hex.{Digits, digitOf, textOf, total, lastByte, lineOf}
 use Rattle.frame.specs.Frame.{four, fours}
 use mir.Syntax.{w32}
-use mir.Val.{ofZ}
-use Rattle.frame.specs.Written.{answerLine, moveLine}
+use lib.Signed.{mag}
+use mir.Val.{toZ, ofZ}
+use Rattle.whole.proofs.Machine.{back}
+use Rattle.frame.specs.Written.{fourBytes, answerLine, moveLine}
 use Rattle.frame.specs.declared.write.Answer.{Answer}
+use Rattle.frame.specs.declared.write.Fields.{Fields}
 use Rattle.frame.specs.declared.write.Move.{Move}
-use Rattle.frame.specs.Puts.{puts, byteText, LinePut}
+use Rattle.frame.specs.Puts.{puts, byteText, laid, Added, LinePut}
 
 -- what was stored stands after what stood before it
 pub take-puts : {A : Type 0} (l : List A) (at : ℕ) (vs : List A) → at + length vs ≤ length l → take (at + length vs) (puts l at vs) ≡ take at l ++ vs
@@ -52,34 +55,77 @@ module _ {A : Type 0} (vs : List A) (to : ℕ) (d : A) where
 
 -- ---- a frame's line
 
+pub text-length : (bs : List ℕ) → length (textOf bs) ≡ 2 * length bs
+unfolding textOf
+text-length [] = refl
+text-length (b ∷ bs) = let r = text-length bs in omega arith
+
+pub line-length : (bs : List ℕ) → length (lineOf bs) ≡ 2 * length bs + 3
+unfolding lineOf
+line-length bs = simp (length-append, text-length) (omega arith)
+
 -- the digits of the bytes from i on, of the sum's byte w, and the line feed
-abbrev pub left : List ℕ → ℕ → ℕ → List ℕ
+abbrev left : List ℕ → ℕ → ℕ → List ℕ
 left bs i w = textOf (drop i bs ++ (w ∷ [])) ++ (10 ∷ [])
 
-pub line-start : (out bs : List ℕ) (at : ℕ) → puts out at (lineOf bs) ≡ puts out (at + 2 * 0) (left bs 0 (lastByte bs))
+-- The first i of a line's n bytes stand before place p, and acc is their sum: to put the rest from p on is to put the whole line.
+pub record Writing (start : List ℕ) (at : ℕ) (bs : List ℕ) (n : ℕ) (out : List ℕ) (acc p i : ℕ) : Type 0 where
+  pub sized : length bs ≡ n
+  pub upto : i ≤ n
+  pub place : p ≡ at + 2 * i
+  pub room : length out ≡ length start
+  pub sum : (acc + total (drop i bs)) % 256 ≡ total bs % 256
+  pub line : puts start at (lineOf bs) ≡ puts out p (left bs i (lastByte bs))
+
+pub line-not-put : (bs : List ℕ) {out : List ℕ} {at n : ℕ} → length bs ≡ n → length out < at + (2 * n + 3) → LinePut (lineOf bs) out at at out
+line-not-put bs e h = let l = line-length bs in record { room = λ k. absurd (omega arith); full = λ _. (refl, refl) }
+
+pub line-start : {out bs : List ℕ} {at n : ℕ} → length bs ≡ n → Writing out at bs n out 0 at 0
 unfolding lineOf
-line-start out bs at = let e : at + 2 * 0 ≡ at = omega arith in rw e
+line-start e = record { sized = e; upto = omega arith; place = omega arith; room = refl; sum = omega arith; line = refl }
 
-pub line-byte : (out out' bs : List ℕ) (at i w : ℕ) → i < length bs → out' ≡ puts out (at + 2 * i) (byteText (getD bs i 0))
-    → puts out (at + 2 * i) (left bs i w) ≡ puts out' (at + 2 * (i + 1)) (left bs (i + 1) w)
-unfolding puts textOf
-line-byte out out' bs at i w h e =
-    let d = one bs i h in
-    let p : at + 2 * i + 1 + 1 ≡ at + 2 * (i + 1) = omega arith in
-    ap (λ (l : List ℕ). puts out (at + 2 * i) (textOf (l ++ (w ∷ [])) ++ (10 ∷ []))) d
-    ∙ ap (λ (l : List ℕ). puts l (at + 2 * i + 1 + 1) (left bs (i + 1) w)) (sym e)
-    ∙ ap (λ (n : ℕ). puts out' n (left bs (i + 1) w)) p
+pub line-byte : {start bs out out' : List ℕ} {at n acc acc' p i b : ℕ} → Writing start at bs n out acc p i → i < n → b ≡ getD bs i 0
+    → out' ≡ puts out p (byteText b) → length out' ≡ length out → acc' ≡ (acc + b) % 256 → Writing start at bs n out' acc' (p + 2) (i + 1)
+unfolding puts textOf total
+line-byte {bs = bs} {out} {out'} {p = p} {i = i} {b = b} w h eb e l s =
+    let d = one bs i (omega (arith, w .sized)) ∙ ap (λ (x : ℕ). x ∷ drop (i + 1) bs) (sym eb) in
+    let t : total (drop i bs) ≡ b + total (drop (i + 1) bs) = ap total d in
+    let q : p + 1 + 1 ≡ p + 2 = omega arith in
+    let next = left bs (i + 1) (lastByte bs) in
+    record {
+      sized = w .sized;
+      upto = omega arith;
+      place = omega arith;
+      room = l ∙ w .room;
+      sum = omega arith;
+      line =
+          w .line
+          ∙ ap (λ (rest : List ℕ). puts out p (textOf (rest ++ (lastByte bs ∷ [])) ++ (10 ∷ []))) d
+          ∙ ap (λ (o : List ℕ). puts o (p + 1 + 1) next) (sym e)
+          ∙ ap (λ (x : ℕ). puts out' x next) q;
+    }
 
-pub line-end : (out out' bs : List ℕ) (at i w r : ℕ) → length bs ≤ i → r ≡ w → out' ≡ puts out (at + 2 * i) (byteText r)
-    → puts out (at + 2 * i) (left bs i w) ≡ set out' (at + 2 * i + 2) 10
-unfolding puts textOf
-line-end out out' bs at i w r h er e =
-    let d : drop i bs ≡ [] = drop-of-length-le bs h in
-    let p : at + 2 * i + 1 + 1 ≡ at + 2 * i + 2 = omega arith in
-    ap (λ (l : List ℕ). puts out (at + 2 * i) (textOf (l ++ (w ∷ [])) ++ (10 ∷ []))) d
-    ∙ ap (λ (x : ℕ). puts out (at + 2 * i) (textOf (x ∷ []) ++ (10 ∷ []))) (sym er)
-    ∙ ap (λ (l : List ℕ). set l (at + 2 * i + 1 + 1) 10) (sym e)
-    ∙ ap (λ (n : ℕ). set out' n 10) p
+pub line-end : {start bs out out' : List ℕ} {at n acc p i r : ℕ} → Writing start at bs n out acc p i → n ≤ i → at + (2 * n + 3) ≤ length start
+    → r < 256 → (r + acc) % 256 ≡ 0 → out' ≡ puts out p (byteText r) → LinePut (lineOf bs) start at (p + 3) (set out' (p + 2) 10)
+unfolding puts textOf total lastByte
+line-end {bs = bs} {out} {out'} {p = p} {i = i} {r = r} w h fits small er e =
+    let d : drop i bs ≡ [] = drop-of-length-le bs {i = i} (omega (arith, w .sized)) in
+    let t : total (drop i bs) ≡ 0 = ap total d in
+    let last : r ≡ lastByte bs = omega arith in
+    let q : p + 1 + 1 ≡ p + 2 = omega arith in
+    let l = line-length bs in
+    record {
+      room = λ _. (
+        omega arith,
+        sym
+            (w .line
+            ∙ ap (λ (rest : List ℕ). puts out p (textOf (rest ++ (lastByte bs ∷ [])) ++ (10 ∷ []))) d
+            ∙ ap (λ (x : ℕ). puts out p (textOf (x ∷ []) ++ (10 ∷ []))) (sym last)
+            ∙ ap (λ (o : List ℕ). set o (p + 1 + 1) 10) (sym e)
+            ∙ ap (λ (x : ℕ). set out' x 10) q),
+      );
+      full = λ k. absurd (omega arith);
+    }
 
 -- ---- the sixteen digits
 
@@ -109,35 +155,32 @@ digit-at (suc (suc (suc (suc (suc (suc (suc (suc (suc (suc (suc (suc (suc (suc (
 pub digits-are : Digits sixteen
 digits-are = (refl, digit-at)
 
--- ---- its sum
+-- ---- a frame's bytes, field by field
 
-pub sum-more : (s : List ℕ) (i acc r : ℕ) → i < length s → (acc + total (drop i s)) % 256 ≡ total s % 256 → r ≡ (acc + getD s i 0) % 256 → (r + total (drop (i + 1) s)) % 256 ≡ total s % 256
-unfolding total
-sum-more s i acc r h e er =
-    let left : total (drop i s) ≡ getD s i 0 + total (drop (i + 1) s) = ap total (one s i h) in
-    omega arith
+pub laid-length : (f : Fields) → length (f .bytes) ≡ 16 → f .n ≤ 16 → length (laid f) ≡ f .n
+laid-length f e h = length-take-le (f .n) (f .bytes) (omega arith)
 
-pub sum-last : (s : List ℕ) (i acc r : ℕ) → length s ≤ i → r < 256 → (acc + total (drop i s)) % 256 ≡ total s % 256 → (r + acc) % 256 ≡ 0 → r ≡ lastByte s
-unfolding total lastByte
-sum-last s i acc r h small e er =
-    let none : total (drop i s) ≡ 0 = ap total (drop-of-length-le s h) in
-    omega arith
+pub add-byte : (f : Fields) (b : ℕ) → f .n + 1 ≤ 16 → length (f .bytes) ≡ 16 → Added (b ∷ []) f (record { bytes = set (f .bytes) (f .n) b; n = f .n + 1 })
+add-byte f b h e = record { n = refl; fits = omega arith; is = rw (add-one, take-suc-set (f .bytes) (f .n) b (omega arith)) }
 
-pub text-length : (bs : List ℕ) → length (textOf bs) ≡ 2 * length bs
-unfolding textOf
-text-length [] = refl
-text-length (b ∷ bs) = let r = text-length bs in omega arith
+-- two fields, one after the other, add the bytes of both
+infixr 4 _then_
+pub _then_ : {bs cs : List ℕ} {f g r : Fields} → Added bs f g → Added cs g r → Added (bs ++ cs) f r
+_then_ {bs} {cs} {f} p q =
+    record {
+      n = simp length-append (omega (arith, p .n, q .n));
+      fits = q .fits;
+      is = q .is ∙ ap (λ (l : List ℕ). l ++ cs) (p .is) ∙ append-assoc (laid f) bs cs;
+    }
 
-pub line-length : (bs : List ℕ) → length (lineOf bs) ≡ 2 * length bs + 3
-unfolding lineOf
-line-length bs = simp (length-append, text-length) (omega arith)
+-- a number of a struct is handed on by its bits, and they tell it
+pub told : (z : ℤ) {f r : Fields} → mag z < 2 ^ 31 → Added (fourBytes (toZ w32 (ofZ w32 z))) f r → Added (fourBytes z) f r
+told z {f} {r} h = subst (λ (x : ℤ). Added (fourBytes x) f r) (back z h)
 
--- a line of n bytes, written or not
-pub line-put : (line out out' : List ℕ) (at n : ℕ) → length line ≡ n → at + n ≤ length out → out' ≡ puts out at line → LinePut line out at (at + n) out'
-line-put line out out' at n e h g = record { room = λ _. (ap (λ (k : ℕ). at + k) (sym e), g); full = λ k. absurd (omega arith) }
-
-pub line-not-put : (line out : List ℕ) (at n : ℕ) → length line ≡ n → length out < at + n → LinePut line out at at out
-line-not-put line out at n e h = record { room = λ k. absurd (omega arith); full = λ _. (refl, refl) }
+-- a frame's line is of its kind and of what its fields added
+pub line-of : {out out' bs : List ℕ} {kind at to : ℕ} {f r : Fields} → laid f ≡ kind ∷ [] → Added bs f r → LinePut (lineOf (laid r)) out at to out'
+    → LinePut (lineOf (kind ∷ bs)) out at to out'
+line-of {out} {out'} {bs} {at = at} {to = to} e a = subst (λ (l : List ℕ). LinePut (lineOf l) out at to out') (a .is ∙ ap (λ (l : List ℕ). l ++ bs) e)
 
 -- ---- columns
 
@@ -172,20 +215,3 @@ answer-length k = line-length _
 pub move-length : (m : Move) → length (moveLine m) ≡ 31
 unfolding moveLine
 move-length m = line-length _
-
-pub answer-put : (out out' : List ℕ) (at : ℕ) (k : Answer) (l h s0 s1 l0 l1 l2 l3 h0 h1 h2 h3 p0 p1 : ℕ)
-    → l ≡ ofZ w32 (k .lowest) → h ≡ ofZ w32 (k .highest) → s0 ≡ k .separation / 256 % 256 → s1 ≡ k .separation % 256
-    → l0 ≡ l / 16777216 % 256 → l1 ≡ l / 65536 % 256 → l2 ≡ l / 256 % 256 → l3 ≡ l % 256
-    → h0 ≡ h / 16777216 % 256 → h1 ≡ h / 65536 % 256 → h2 ≡ h / 256 % 256 → h3 ≡ h % 256
-    → p0 ≡ k .pair / 256 % 256 → p1 ≡ k .pair % 256
-    → out' ≡ puts out at (lineOf (32 ∷ k .line ∷ k .refusal ∷ s0 ∷ s1 ∷ l0 ∷ l1 ∷ l2 ∷ l3 ∷ h0 ∷ h1 ∷ h2 ∷ h3 ∷ p0 ∷ p1 ∷ k .side ∷ [])) → out' ≡ puts out at (answerLine k)
-unfolding answerLine
-answer-put out out' at k l h s0 s1 l0 l1 l2 l3 h0 h1 h2 h3 p0 p1 el eh es0 es1 a0 a1 a2 a3 b0 b1 b2 b3 q0 q1 e = e ∙ simp (es0, es1, a0, a1, a2, a3, b0, b1, b2, b3, q0, q1, el, eh)
-
-pub move-put : (out out' : List ℕ) (at : ℕ) (m : Move) (f t w0 w1 t0 t1 f0 f1 f2 f3 g0 g1 g2 g3 : ℕ)
-    → f ≡ ofZ w32 (m .from) → t ≡ ofZ w32 (m .to) → w0 ≡ m .wire / 256 % 256 → w1 ≡ m .wire % 256 → t0 ≡ m .track / 256 % 256 → t1 ≡ m .track % 256
-    → f0 ≡ f / 16777216 % 256 → f1 ≡ f / 65536 % 256 → f2 ≡ f / 256 % 256 → f3 ≡ f % 256
-    → g0 ≡ t / 16777216 % 256 → g1 ≡ t / 65536 % 256 → g2 ≡ t / 256 % 256 → g3 ≡ t % 256
-    → out' ≡ puts out at (lineOf (33 ∷ m .line ∷ w0 ∷ w1 ∷ t0 ∷ t1 ∷ f0 ∷ f1 ∷ f2 ∷ f3 ∷ g0 ∷ g1 ∷ g2 ∷ g3 ∷ [])) → out' ≡ puts out at (moveLine m)
-unfolding moveLine
-move-put out out' at m f t w0 w1 t0 t1 f0 f1 f2 f3 g0 g1 g2 g3 ef et e0 e1 e2 e3 a0 a1 a2 a3 b0 b1 b2 b3 e = e ∙ simp (e0, e1, e2, e3, a0, a1, a2, a3, b0, b1, b2, b3, ef, et)

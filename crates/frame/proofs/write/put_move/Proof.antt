@@ -1,112 +1,40 @@
-use native.Mathlib.Omega.{arith}
-use mathlib.Core.Path.{_≡_, refl, sym, ap, _∙_}
-use mir.Syntax.{w32}
-use mir.Val.{ofZ}
-use mir.ValLaws.{toZ-ofZ}
-use Rattle.frame.proofs.Puts.{move-length, move-put, line-put, line-not-put}
+use Rattle.frame.specs.Written.{moveLine}
+use Rattle.frame.proofs.Puts.{_then_, told, line-of}
 use borrow.Author.Needs.{needs}
 use Rattle.frame.proofs.write.put_move.Statement.{statement}
 use Rattle.frame.proofs.write.put_move.Tie as tie
 
-room-requires : tie.Need-room-requires
-room-requires c κs = search needs
-
 returns : tie.Need-returns
-returns c = line-not-put _ _ _ 31 (move-length _) (omega (arith, c .if1 .taken, c .before .room .ensures))
+unfolding moveLine
+returns c =
+    let at-put-line = c .before .before in
+    let at-four2 = at-put-line .before .before in
+    let at-four = at-four2 .before .before in
+    let at-two2 = at-four .before .before in
+    let at-two = at-two2 .before in
+    let at-one = at-two .before in
+    let at-frame = at-one .before in
+    let m = at-frame .before .before .args .m in
+    line-of
+    (at-frame .frame .ensures .1)
+    (at-one .one .ensures
+    then at-two .two .ensures
+    then at-two2 .two2 .ensures
+    then told (m .from) (at-four .before .struct-told .given .1 .1 .1 .0 .1) (at-four .four .ensures)
+    then told (m .to) (at-four2 .before .struct-told2 .given .1 .1 .1 .1 .0 .1) (at-four2 .four2 .ensures))
+    (at-put-line .put-line .ensures)
 
-bits-requires : tie.Need-bits-requires
-bits-requires c κs = search needs
-
-cast-f : tie.Need-cast-f
-cast-f c = search needs
-
-bits-requires-2 : tie.Need-bits-requires-2
-bits-requires-2 c κs = search needs
-
-cast-t : tie.Need-cast-t
-cast-t c = search needs
-
-low-requires : tie.Need-low-requires
-low-requires c κs = search needs
-
-low-requires-2 : tie.Need-low-requires-2
-low-requires-2 c κs = search needs
-
-low-requires-3 : tie.Need-low-requires-3
-low-requires-3 c κs = search needs
-
-low-requires-4 : tie.Need-low-requires-4
-low-requires-4 c κs = search needs
-
-low-requires-5 : tie.Need-low-requires-5
-low-requires-5 c κs = search needs
-
-low-requires-6 : tie.Need-low-requires-6
-low-requires-6 c κs = search needs
-
-low-requires-7 : tie.Need-low-requires-7
-low-requires-7 c κs = search needs
-
-low-requires-8 : tie.Need-low-requires-8
-low-requires-8 c κs = search needs
-
-low-requires-9 : tie.Need-low-requires-9
-low-requires-9 c κs = search needs
-
-low-requires-10 : tie.Need-low-requires-10
-low-requires-10 c κs = search needs
-
-low-requires-11 : tie.Need-low-requires-11
-low-requires-11 c κs = search needs
-
-low-requires-12 : tie.Need-low-requires-12
-low-requires-12 c κs = search needs
-
-slice-aggregate-put-line : tie.Need-slice-aggregate-put-line
-slice-aggregate-put-line c = search needs
-
-put-line-requires : tie.Need-put-line-requires
-put-line-requires c κs = search needs
-
-add-result : tie.Need-add-result
-add-result c = omega (arith, c .before .before .before .before .before .before .before .before .before .before .before .before .before .before .before .before .before .before .before .before .before .before .before .if1 .left, c .before .before .before .before .before .before .before .before .before .before .before .before .before .before .before .before .before .before .before .before .before .before .before .before .room .ensures, c .before .before .before .before .before .before .before .before .before .before .before .before .before .before .before .before .before .before .before .before .before .before .before .before .before .before .good)
-
-same-length : tie.Need-same-length
-same-length c = search needs
-
-returns-2 : tie.Need-returns-2
-returns-2 c =
-    let ef = toZ-ofZ w32 (c .before .before .before .before .before .before .before .before .before .before .before .before .before .before .before .before .before .before .before .before .before .before .before .before .before .before .args .m .from) (record { sfits = c .before .before .before .before .before .before .before .before .before .before .before .before .before .before .before .before .before .before .before .before .before .before .struct-told .given .1 .1 .1 .0 .1 }) in
-    let et = toZ-ofZ w32 (c .before .before .before .before .before .before .before .before .before .before .before .before .before .before .before .before .before .before .before .before .before .before .before .before .before .before .args .m .to) (record { sfits = c .before .before .before .before .before .before .before .before .before .before .before .before .before .before .before .before .before .before .before .before .struct-told2 .given .1 .1 .1 .1 .0 .1 }) in
-    line-put _ _ _ _ 31 (move-length _) (omega (arith, c .before .before .before .before .before .before .before .before .before .before .before .before .before .before .before .before .before .before .before .before .before .before .before .if1 .left, c .before .before .before .before .before .before .before .before .before .before .before .before .before .before .before .before .before .before .before .before .before .before .before .before .room .ensures))
-    (move-put _ _ _ (c .before .before .before .before .before .before .before .before .before .before .before .before .before .before .before .before .before .before .before .before .before .before .before .before .before .before .args .m) _ _ _ _ _ _ _ _ _ _ _ _ _ _ (c .before .before .before .before .before .before .before .before .before .before .before .before .before .before .before .before .before .before .before .before .before .bits .ensures ∙ ap (ofZ w32) ef) (c .before .before .before .before .before .before .before .before .before .before .before .before .before .before .before .before .before .before .before .bits2 .ensures ∙ ap (ofZ w32) et) (c .before .before .before .before .before .before .before .before .before .before .before .before .before .before .before .before .before .low .ensures) (c .before .before .before .before .before .before .before .before .before .before .before .before .before .before .before .before .low2 .ensures)
-    (c .before .before .before .before .before .before .before .before .before .before .before .before .before .before .low3 .ensures) (c .before .before .before .before .before .before .before .before .before .before .before .before .before .low4 .ensures) (c .before .before .before .before .before .before .before .before .before .before .before .before .low5 .ensures) (c .before .before .before .before .before .before .before .before .before .before .before .low6 .ensures) (c .before .before .before .before .before .before .before .before .before .before .low7 .ensures) (c .before .before .before .before .before .before .before .before .before .low8 .ensures) (c .before .before .before .before .before .before .before .before .low9 .ensures) (c .before .before .before .before .before .before .before .low10 .ensures)
-    (c .before .before .before .before .before .before .low11 .ensures) (c .before .before .before .before .before .low12 .ensures) (c .before .before .put-line .ensures))
-
+-- each field has room after those before it: the calls in their order
 pub put-move-spec : {M : Type 1} → statement M
 put-move-spec =
     tie.close
     (tie.spec
-    room-requires
-    returns
-    bits-requires
-    cast-f
-    bits-requires-2
-    cast-t
-    low-requires
-    low-requires-2
-    low-requires-3
-    low-requires-4
-    low-requires-5
-    low-requires-6
-    low-requires-7
-    low-requires-8
-    low-requires-9
-    low-requires-10
-    low-requires-11
-    low-requires-12
-    slice-aggregate-put-line
-    put-line-requires
-    add-result
-    same-length
-    returns-2)
+    (λ c κs. search needs)
+    (λ c κs. search needs)
+    (λ c κs. search needs)
+    (λ c κs. search needs)
+    (λ c κs. search needs)
+    (λ c κs. search needs)
+    (λ c κs. search needs)
+    (λ c. search needs)
+    returns)
