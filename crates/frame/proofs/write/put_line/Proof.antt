@@ -45,7 +45,9 @@ put-byte-requires-2 : tie.Need-put-byte-requires-2 Inv-loop μ-loop
 put-byte-requires-2 c κs = (search needs, digits-are)
 
 same-length : tie.Need-same-length Inv-loop μ-loop
-same-length c = simp length-set (c .before .before .put-byte2 .kept .0 ∙ c .before .before .before .before .before .before .before .loop .inv .room)
+same-length c =
+    let at-loop = c .before .before .before .before .before .before .before in
+    simp length-set (c .before .before .put-byte2 .kept .0 ∙ at-loop .loop .inv .room)
 
 returns-2 : tie.Need-returns-2 Inv-loop μ-loop
 returns-2 c =

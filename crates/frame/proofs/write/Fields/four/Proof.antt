@@ -11,8 +11,9 @@ use Rattle.frame.proofs.write.Fields.four.Tie as tie
 
 returns : tie.Need-returns
 returns c =
-    let x = c .before .before .bits .result in
-    let is = c .before .before .bits .ensures ∙ ap (ofZ w32) (toZ-ofZ w32 _ (c .before .before .before .fits .z)) in
+    let at-bits = c .before .before in
+    let x = at-bits .bits .result in
+    let is = at-bits .bits .ensures ∙ ap (ofZ w32) (toZ-ofZ w32 _ (c .before .before .before .fits .z)) in
     let high : x / 16777216 ≡ x / 65536 / 256 = omega arith in
     rw (← is, high) (c .before .two .ensures then c .two2 .ensures)
 
