@@ -34,10 +34,6 @@ pub rule-under : (s t : ℕ) → ruleAt t < s → t ≤ tracksFor s
 unfolding ruleAt tracksFor
 rule-under s t h = omega arith
 
-pub tracks-zero : tracksFor 0 ≡ 0
-unfolding tracksFor
-tracks-zero = refl
-
 pub tracks-some : (s : ℕ) → 0 < s → 0 < tracksFor s
 unfolding tracksFor
 tracks-some s h = h
