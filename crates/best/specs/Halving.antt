@@ -20,7 +20,7 @@ emptyAt m x y s = isEmpty (rangeOf m x y s)
 abbrev pub readAt : (m s : ℕ) → ℕ
 readAt m s = 2 * (m - s)
 
--- a separation that was taken, and how many differences were read on the way
+-- a number that was taken, and how many differences were read on the way
 pub record Taken : Type 0 where
   pub best : ℕ
   pub count : ℕ

@@ -6,7 +6,7 @@ use crate::level::lowest;
 use crate::level::set_rung;
 use crate::rows::even_half;
 
-// The best separation of the m pairs in front of x and y. Their even halves go to the front of hx and hy, and the halves of those to what is
+// The best number of the m pairs in front of x and y. Their even halves go to the front of hx and hy, and the halves of those to what is
 // behind the pairs in x and y, so that no level has arrays of its own. The level's rung is written in front of `ladder`, those below behind it.
 pub(crate) fn climb(
     x: &mut [i32],

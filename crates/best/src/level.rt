@@ -1,4 +1,4 @@
-// One level of the halving: its best separation from that of its even half, and its rung of the ladder.
+// One level of the halving: its best number from that of its even half, and its rung of the ladder.
 ghost use mathlib.Core.Path.{_≡_};
 ghost use mathlib.Core.List.{_∷_};
 ghost use Prim.Native.Nat.{_≤_};
@@ -9,7 +9,7 @@ ghost use Rattle.best.specs.Work.{Choosable, EvenTried, Chosen, lowestLe
 use crate::trial::try_at;
 use jumper::range::OffsetRange;
 
-// The best separation, how many differences were read for it, and the range there, which is empty if it was not read.
+// The best number, how many differences were read for it, and the range there, which is empty if it was not read.
 pub(crate) struct Level {
     pub(crate) best: usize,
     pub(crate) range: OffsetRange,
@@ -69,7 +69,7 @@ pub(crate) fn choose(x: &[i32], y: &[i32], m: usize, h: usize, read: usize) -> L
     }
 }
 
-// A rung of the ladder: a level's size and its best separation.
+// A rung of the ladder: a level's size and its best number.
 pub(crate) fn set_rung(ladder: &mut [usize], size: usize, best: usize)
     requires { ⌜ 2 ≤ length (now ladder) ⌝ }
     ensures { λ _. ⌜ now (ladder .exit) ≡ size ∷ best ∷ drop 2 (now (ladder .entry)) ⌝ }

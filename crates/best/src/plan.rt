@@ -58,7 +58,7 @@ impl Best {
 }
 
 // The least separation at which a legal wiring exists at any offset: refusals 1 to 5, then BUFFER. The ladder is written in front of the buffer:
-// size and best separation of each level, from all pairs down to one.
+// size and best number of each level, from all pairs down to one.
 pub fn best_of(a: &[i32], b: &[i32], ladder: &mut [usize]) -> Best
     ensures { λ r. ⌜ BestAnswer (now (a .entry)) (now (b .entry)) (now (ladder .entry)) (now (ladder .exit)) r ⌝ }
 {

@@ -1,4 +1,4 @@
-// A trial: the range at one separation, and how many differences were read for it.
+// A trial: the range of the rule at one number, and how many differences were read for it.
 ghost use mathlib.Core.Path.{_≡_};
 ghost use lib.IntN.{_-ℤ_};
 ghost use Rattle.wiring.specs.Wiring.{pad};
@@ -18,7 +18,7 @@ fn difference(x: &[i32], i: usize, y: &[i32], j: usize) -> i32
     x[i] - y[j]
 }
 
-// At separation s among the m pairs in front of x and y. Two differences are read for pair 0 and two more in each round, so i, which counts the
+// At s among the m pairs in front of x and y. Two differences are read for pair 0 and two more in each round, so i, which counts the
 // rounds that were made, tells the count. A second counter of 64 bits would halve the width at which the loop runs.
 pub(crate) fn try_at(x: &[i32], y: &[i32], m: usize, s: usize) -> Trial
     requires { ⌜ Triable m (now x) (now y) s ⌝ }

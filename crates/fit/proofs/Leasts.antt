@@ -59,7 +59,7 @@ fewer f = record { low = λ i h. f .low i (omega arith); high = λ i h. f .high 
 steady-fewer : {n : ℕ} {x : ℕ → ℤ} → Steady (suc n) x → Steady n x
 steady-fewer s i j h l = s i j h (omega arith)
 
--- one pair more, by the test at the separation found before it
+-- one pair more, by the test at the number found before it
 one-more : (n : ℕ) (x y : ℕ → ℤ) (d : ℤ) (s : ℕ) → Steady (suc n) x → Steady (suc n) y → Leastly n x y d s → (t : Bool) → breaksAt x y s d (n - s) ≡ t → Leastly (suc n) x y d (cond t (suc s) s)
 one-more n x y d s sx sy l true e =
     let b = breaks x y s d (suc n) (n - s) (omega (arith, l .within)) e in

@@ -58,7 +58,7 @@ pub record FirstHigh (a b : List ℤ) (s i : ℕ) : Type 0 where
   pub lowest : (j : ℕ) → j + s < length a → highEnd (leanOf a) (leanOf b) s i ≤ℤ highEnd (leanOf a) (leanOf b) s j
   pub first : (j : ℕ) → j < i → highEnd (leanOf a) (leanOf b) s i <ℤ highEnd (leanOf a) (leanOf b) s j
 
--- What `range_at` promises. Where the rule that serves s is below n the range holds exactly the offsets at which a legal wiring exists, and some; else every
+-- What `range_at` promises. Where the rule is read below n the range holds exactly the offsets at which a legal wiring exists, and some; else every
 -- whole-number offset has one. NOOFFSET, exactly when no whole-number offset has one, names the first pair that sets each end.
 pub record OffsetsAnswer (a b : List ℤ) (s : ℕ) (r : Offsets) : Type 0 where
   pub answer : r ≡ offsetsAnswer a b s

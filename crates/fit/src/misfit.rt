@@ -27,14 +27,14 @@ pub(crate) fn is_right(side: Side) -> bool
     }
 }
 
-pub(crate) fn too_right(a: &[i32], b: &[i32], s: usize, d: i32, i: usize) -> bool
+fn too_right(a: &[i32], b: &[i32], s: usize, d: i32, i: usize) -> bool
     requires { ⌜ AcceptedShift (now a) (now b) d × (i + s < length (now a)) ⌝ }
     ensures { λ r. ⌜ r ≡ tooRight (leanOf (now (a .entry))) (leanOf (now (b .entry))) s d i ⌝ }
 {
     a[i + s] < b[i] + d + s as i32
 }
 
-pub(crate) fn too_left(a: &[i32], b: &[i32], s: usize, d: i32, i: usize) -> bool
+fn too_left(a: &[i32], b: &[i32], s: usize, d: i32, i: usize) -> bool
     requires { ⌜ AcceptedShift (now a) (now b) d × (i + s < length (now a)) ⌝ }
     ensures { λ r. ⌜ r ≡ tooLeft (leanOf (now (a .entry))) (leanOf (now (b .entry))) s d i ⌝ }
 {

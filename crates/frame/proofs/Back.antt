@@ -1,22 +1,21 @@
 -- What is written is read back: `written-back`, for every frame of the input kinds.
-use lib.IntN.{ℤ, pos}
-use mathlib.Core.Path.{_≡_, refl, sym, ap, _∙_, subst}
-use mathlib.Core.Bool.{Bool, true, false, cond}
+use lib.IntN.{ℤ}
+use mathlib.Core.Path.{_≡_, refl, sym, ap, _∙_}
+use mathlib.Core.Bool.{true, false}
 use mathlib.Core.List.{List, [], _∷_, _++_, append-assoc}
-use Prim.Native.Nat.{ℕ, zero, suc, _+_, _*_, _-_, _/_, _%_, _<_, _≤_, _^_}
+use Prim.Native.Nat.{ℕ, _+_, _*_, _-_, _/_, _%_, _<_, _≤_, _^_}
 use native.Mathlib.Nat.{div-div-eq-div-mul}
 use native.Mathlib.Omega.{arith}
-use lib.Dec.{ltb, eqb, leb}
+use lib.Dec.{ltb}
 use lib.ListN.{length, getD, length-append}
 use lib.Seq.{getD-append-add}
 use borrow.Author.Tests.{lt-ltb, le-ltb, le-leb, eq-eqb, ne-eqb, ltb-true, ltb-false}
 use mir.Syntax.{w32}
-use mir.Val.{toZ, ofZ, SFits, Fits}
+use mir.Val.{toZ, ofZ, SFits}
 use mir.ValLaws.{toZ-ofZ, ofZ-fits}
 use Rattle.frame.specs.Hex.{isDigit, valueOf, digitOf, allDigits, bytesOf, textOf, total, lastByte, isSound, lineOf}
-use Rattle.frame.specs.Frame.{Frame, bad, header, bottom, top, one, two, four, fours, headerOf, countOf, carrierOf, kindOf, textFrame, frameOf}
-use Rattle.frame.specs.Written.{twoBytes, fourBytes, columnBytes, inputBytes, written}
-use Rattle.frame.specs.declared.read.Order.{Order}
+use Rattle.frame.specs.Frame.{Frame, bad, header, bottom, top, four, fours, headerOf, countOf, carrierOf, kindOf, textFrame, frameOf}
+use Rattle.frame.specs.Written.{fourBytes, columnBytes, inputBytes, written}
 use Rattle.frame.proofs.Scan.{either}
 use Rattle.frame.proofs.Puts.{text-length}
 use Rattle.frame.proofs.Frames.{fed-frame}

@@ -1,18 +1,17 @@
 -- What a good frame has, and how the reader's tests come to the definition.
-use lib.IntN.{ℤ, pos}
-use mathlib.Core.Path.{_≡_, refl, sym, ap, _∙_, subst}
+use lib.IntN.{ℤ}
+use mathlib.Core.Path.{_≡_, refl, sym, ap, _∙_}
 use mathlib.Core.Bool.{Bool, true, false, cond, false≢true}
 use mathlib.Core.List.{List, [], _∷_, _++_}
 use mathlib.Core.Logic.{_⊎_, inl, inr, ⊎-elim}
 use Prim.Native.Nat.{ℕ, zero, suc, _+_, _*_, _-_, _/_, _%_, _<_, _≤_}
 use native.Mathlib.Omega.{arith}
-use lib.Dec.{ltb, eqb, leb}
+use lib.Dec.{eqb, leb}
 use lib.ListN.{length, getD, take, length-append}
 use lib.Seq.{take-append-seam, getD-append-seam, getD-take}
-use borrow.Author.Tests.{lt-ltb, le-ltb, le-leb, lt-leb, eq-eqb, ne-eqb, eqb-true, leb-true, eqb-false, leb-false}
-use Rattle.frame.specs.Hex.{isDigit, valueOf, allDigits, bytesOf, total, isSound, Decoded}
+use borrow.Author.Tests.{lt-ltb, le-leb, eq-eqb, ne-eqb, eqb-true, leb-true, eqb-false}
+use Rattle.frame.specs.Hex.{isDigit, valueOf, bytesOf, isSound, Decoded}
 use Rattle.frame.specs.Frame.{Frame, bad, header, bottom, top, one, two, four, fours, headerOf, countOf, carrierOf, kindOf, textFrame, isFed, frameOf, saidOf, columnsOf}
-use Rattle.frame.specs.declared.read.Order.{Order}
 use Rattle.frame.specs.declared.read.Said.{Said}
 use Rattle.frame.specs.declared.read.Said.the-variants.{Bad, Header, Bottom, Top}
 use Rattle.frame.specs.Puts.{puts, ColumnsRead, ReadIn}

@@ -1,6 +1,6 @@
 -- Runs of stores: a line's digits, a row's columns.
--- Sections: stores in general; a frame's line, byte by byte; the sixteen digits; a frame's bytes, field by field; columns.
-use lib.IntN.{ℤ, pos}
+-- Sections: stores in general; a frame's line, byte by byte; the sixteen digits; a frame's bytes, field by field; the two frames of an answer; columns.
+use lib.IntN.{ℤ}
 use mathlib.Core.Path.{_≡_, refl, sym, ap, _∙_, subst}
 use mathlib.Core.List.{List, [], _∷_, _++_, append-assoc, append-nil}
 use Prim.Native.Nat.{ℕ, zero, suc, _+_, _*_, _-_, _^_, _%_, _<_, _≤_}

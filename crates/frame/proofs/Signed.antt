@@ -1,15 +1,15 @@
 -- The bits of a signed number of 32 bits.
 use mathlib.Core.Path.{_≡_, refl, sym, ap, subst, _∙_}
-use mathlib.Core.Bool.{Bool, true, false, cond, true≢false, false≢true}
-use Prim.Native.Nat.{ℕ, zero, suc, _+_, _-_, _<_, _≤_, _^_}
+use mathlib.Core.Bool.{true, false, true≢false, false≢true}
+use Prim.Native.Nat.{ℕ, zero, suc, _-_, _<_, _≤_, _^_}
 use native.Mathlib.Omega.{arith}
-use lib.IntN.{ℤ, pos, negsuc, subℕ, natAbs, _-ℤ_}
-use lib.Signed.{mag, leZ, nonNeg}
+use lib.IntN.{ℤ, pos, negsuc, natAbs, _-ℤ_}
+use lib.Signed.{leZ, nonNeg}
 use lib.Dec.{T, ltb}
 use borrow.Author.Tests.{le-ltb, le-leb}
 use mir.Syntax.{w32}
 use mir.Val.{Fits, SFits, toZ, ofZ}
-use mir.Facts.{toZ-ofZ, toZ-pos, toZ-neg, sfits-toZ}
+use mir.Facts.{toZ-ofZ, toZ-pos}
 
 -- -1 - y
 down : (y : ℕ) → negsuc 0 -ℤ pos y ≡ negsuc y

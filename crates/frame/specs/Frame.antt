@@ -2,10 +2,9 @@
 -- line feed. Every other line is a bad frame." Kinds are hexadecimal: 16, 17 and 18 here.
 --
 -- Worked: 10000002FFFF00000000F0 opens line 0 of 2 pairs, at the least separation and offset 0.
-use mathlib.Core.Bool.{Bool, true, false, cond}
-use mathlib.Core.Path.{_≡_}
+use mathlib.Core.Bool.{Bool, false, cond}
 use mathlib.Core.List.{List, [], _∷_}
-use Prim.Native.Nat.{ℕ, zero, suc, _+_, _*_, _-_, _≤_}
+use Prim.Native.Nat.{ℕ, zero, suc, _+_, _*_, _-_}
 use lib.Dec.{eqb, leb, ltb}
 use lib.ListN.{length, getD, take}
 use lib.IntN.{ℤ}

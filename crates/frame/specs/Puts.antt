@@ -2,7 +2,7 @@
 use mathlib.Core.Bool.{Bool, true, false}
 use mathlib.Core.Path.{_≡_}
 use mathlib.Core.List.{List, [], _∷_, _++_}
-use Prim.Native.Nat.{ℕ, _+_, _*_, _<_, _≤_}
+use Prim.Native.Nat.{ℕ, _+_, _<_, _≤_}
 use lib.ListN.{length, take, set}
 use lib.IntN.{ℤ}
 use Rattle.frame.specs.Hex.{textOf, bytesOf, isSound}
@@ -19,11 +19,6 @@ puts l i (v ∷ vs) = puts (set l i v) (i + 1) vs
 pub record LinePut (line out : List ℕ) (at to : ℕ) (out' : List ℕ) : Type 0 where
   pub room : at + length line ≤ length out → (to ≡ at + length line) × (out' ≡ puts out at line)
   pub full : length out < at + length line → (to ≡ at) × (out' ≡ out)
-
--- the columns of a text that has the length for k of them, if it is sound and says k; else nothing is changed
-pub record ColumnsRead (text : List ℕ) (k : ℕ) (columns : List ℤ) (good : Bool) (line : ℕ) (columns' : List ℤ) : Type 0 where
-  pub is : good ≡ true → (isSound text ≡ true) × (one (bytesOf text) 2 ≡ k) × (line ≡ one (bytesOf text) 1) × (columns' ≡ puts columns 0 (fours (bytesOf text) 3 k))
-  pub not : good ≡ false → (columns' ≡ columns) × (isSound text ≡ true → one (bytesOf text) 2 ≡ k → ⊥)
 
 -- a line that is frame f was read: what it says, and its columns from the first place on
 pub record ReadIn (f : Frame) (columns : List ℤ) (r : Said) (columns' : List ℤ) : Type 0 where
@@ -45,3 +40,8 @@ pub record Added (bytes : List ℕ) (f r : Fields) : Type 0 where
   pub n : r .n ≡ f .n + length bytes
   pub fits : r .n ≤ 16
   pub is : laid r ≡ laid f ++ bytes
+
+-- the columns of a text that has the length for k of them, if it is sound and says k; else nothing is changed
+pub record ColumnsRead (text : List ℕ) (k : ℕ) (columns : List ℤ) (good : Bool) (line : ℕ) (columns' : List ℤ) : Type 0 where
+  pub is : good ≡ true → (isSound text ≡ true) × (one (bytesOf text) 2 ≡ k) × (line ≡ one (bytesOf text) 1) × (columns' ≡ puts columns 0 (fours (bytesOf text) 3 k))
+  pub not : good ≡ false → (columns' ≡ columns) × (isSound text ≡ true → one (bytesOf text) 2 ≡ k → ⊥)

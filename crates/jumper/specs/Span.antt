@@ -1,4 +1,4 @@
--- The offsets that the rule of fit leaves at a separation (01): "Offset range at s: the greatest x_i - y_(i+s) up to the least x_(i+s) - y_i."
+-- The offsets that the rule of fit leaves at a number (01): "Offset range at s: the greatest x_i - y_(i+s) up to the least x_(i+s) - y_i."
 -- Here s < n; that the range holds exactly the offsets that fit is the law `range-exactly` of proofs/Spans.antt.
 --
 -- Worked: K = rows 0,5 and 0,5 has the range 0..0 at 0 and -4..4 at 1.

@@ -73,7 +73,9 @@ pub fn carrying(refusal: u8, place: usize, second: usize, pair: usize, side: u8)
     }
 }
 
-// The number of Refusal::Line, for calls whose result is a refusal's number alone.
+// The numbers of Refusal::Wire, before which others come, and of Refusal::Line, for calls whose result is a refusal's number alone.
+pub const WIRE: u8 = 8;
+
 pub const LINE: u8 = 12;
 
 impl Refusal {

@@ -29,7 +29,7 @@ use Rattle.fit.specs.declared.misfit.Misfit.{Misfit}
 use Rattle.fit.specs.declared.misfit.Misfit.the-variants.{None, At}
 use Rattle.jumper.proofs.Wired.{wiring-exactly}
 use Rattle.route.specs.Table.{columnIn, columns, wires, LegalRoute}
-use Rattle.route.specs.Draw.{drawnOf, drawnWires, isUnasked, wireDrawn, allDrawn, DrawWireAnswer, DrawAllAnswer}
+use Rattle.route.specs.Draw.{drawnOf, drawnWires, comesFirst, wireDrawn, allDrawn, DrawWireAnswer, DrawAllAnswer}
 use Rattle.route.specs.Check.{NoFault, FirstFault, firstFault, routeChecked, RouteCheck}
 use Rattle.route.proofs.Places.{columns-length, columns-at, wires-length, wires-at, wires-part}
 use Rattle.route.proofs.Faults.{searched}
@@ -128,21 +128,21 @@ drawn-legal {a} {b} r s d w = drawing-legal (length a) s (pad a) (pad b) d (r .b
 
 -- AN ANSWER OF FIT tells whether what is asked is refused: 1 to 7 are the check's, and the only refusal of its own is NOFIT
 module _ (a b : List ℤ) (s : ℕ) (d : ℤ) (r : Checked) (f : FitAnswer a b s d r) where
-  refused-by : (v : Checked) (m : Misfit) → checkAsked a b s d ≡ v → r ≡ orElse v (noFit m) → isUnasked r ≡ true → (q : Refusal) × (r ≡ Refused q) × (checkAsked a b s d ≡ Refused q)
+  refused-by : (v : Checked) (m : Misfit) → checkAsked a b s d ≡ v → r ≡ orElse v (noFit m) → comesFirst r ≡ true → (q : Refusal) × (r ≡ Refused q) × (checkAsked a b s d ≡ Refused q)
   refused-by Accepted None e g u = absurd (true≢false (sym u ∙ rw g))
   refused-by Accepted (At i k) e g u = absurd (true≢false (sym u ∙ rw g))
   refused-by (Refused q) m e g u = (q, g, e)
 
-  pub unasked : isUnasked r ≡ true → (q : Refusal) × (r ≡ Refused q) × (checkAsked a b s d ≡ Refused q)
+  pub unasked : comesFirst r ≡ true → (q : Refusal) × (r ≡ Refused q) × (checkAsked a b s d ≡ Refused q)
   unasked = refused-by (checkAsked a b s d) (misfitOf a b (ruleAt s) d) refl (f .answer)
 
-  accepted-by : (v : Checked) (m : Misfit) → checkAsked a b s d ≡ v → r ≡ orElse v (noFit m) → isUnasked r ≡ false → checkAsked a b s d ≡ Accepted
+  accepted-by : (v : Checked) (m : Misfit) → checkAsked a b s d ≡ v → r ≡ orElse v (noFit m) → comesFirst r ≡ false → checkAsked a b s d ≡ Accepted
   accepted-by Accepted m e g u = e
   accepted-by (Refused q) m e g u =
       let l = rw e at (early-asked a b s d) in
       absurd (true≢false (sym (lt-ltb (refusalNumbers q .refusal) 8 (omega arith)) ∙ (rw g at u)))
 
-  pub asked : isUnasked r ≡ false → checkAsked a b s d ≡ Accepted
+  pub asked : comesFirst r ≡ false → checkAsked a b s d ≡ Accepted
   asked = accepted-by (checkAsked a b s d) (misfitOf a b (ruleAt s) d) refl (f .answer)
 
 -- ONE WIRE

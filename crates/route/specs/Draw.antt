@@ -49,10 +49,10 @@ wireRefusal a b s d wire room = orElse (checkAsked a b s d) (orElse (noWire (len
 abbrev pub allRefusal : (a b : List ℤ) (s : ℕ) (d : ℤ) (room : ℕ) → Checked
 allRefusal a b s d room = orElse (checkAsked a b s d) (orElse (noRoom (length a * (s + 1)) room) (noFit (misfitOf a b (ruleAt s) d)))
 
--- an answer of `fit` that refuses what is asked, 1 to 7, and not the fit
-abbrev pub isUnasked : Checked → Bool
-isUnasked Accepted = false
-isUnasked (Refused r) = ltb (refusalNumbers r .refusal) 8
+-- a refusal of `fit` that comes before WIRE: what is asked isn't accepted. Only the code needs this
+abbrev pub comesFirst : Checked → Bool
+comesFirst Accepted = false
+comesFirst (Refused r) = ltb (refusalNumbers r .refusal) (refusalNumbers Wire .refusal)
 
 -- What `draw_wire` promises of a buffer `out` and what it holds after the call, `out′`: the wire that its places mean is wire `wire` of a legal wiring.
 -- NOFIT is given exactly when nothing else is refused and there is no legal wiring. A refusal writes nothing.

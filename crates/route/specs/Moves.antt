@@ -49,24 +49,24 @@ abbrev pub movesLeft : (l s : ℕ) (d : ℤ) (a b : List ℤ) (i t : ℕ) → Li
 movesLeft l s d a b i t = cond (isAsked a b s d) (routeLeft l s d a b i t) []
 
 -- What `give_moves` promises: the frames stand in the buffer from place `from` to place `to`, which is within the buffer if `from` was, and what is left
--- of them is to be written from wire i' and its track t' on. It stops only where fewer than 35 places are left, the length of a frame 20.
+-- of them is to be written from wire i' and its track t' on. It stops only where fewer than 31 places are left, the length of a frame 21.
 pub record MovesOut (l s : ℕ) (d : ℤ) (a b : List ℤ) (i t : ℕ) (out : List ℕ) (from : ℕ) (i' t' to : ℕ) (out' : List ℕ) : Type 0 where
   pub gave : take from out ++ movesLeft l s d a b i t ≡ take to out' ++ movesLeft l s d a b i' t'
   pub fits : from ≤ length out → to ≤ length out
-  pub far : i' < length a → length out < to + 35
+  pub far : i' < length a → length out < to + 31
 
 -- What its parts promise each other; no reader needs to believe these. The frames of accepted rows, of one wire, and of one track
 pub record RouteOut (l s : ℕ) (d : ℤ) (a b : List ℤ) (i t : ℕ) (out : List ℕ) (from : ℕ) (i' t' to : ℕ) (out' : List ℕ) : Type 0 where
   pub gave : take from out ++ routeLeft l s d a b i t ≡ take to out' ++ routeLeft l s d a b i' t'
   pub fits : from ≤ length out → to ≤ length out
-  pub far : i' < length a → length out < to + 35
+  pub far : i' < length a → length out < to + 31
 
 pub record WireOut (l s : ℕ) (d : ℤ) (a b : List ℤ) (i t : ℕ) (out : List ℕ) (from : ℕ) (t' to : ℕ) (out' : List ℕ) : Type 0 where
   pub gave : take from out ++ wireText l (drawn (length a) (pad a) (topPad b d)) i t (s - t) ≡ take to out' ++ wireText l (drawn (length a) (pad a) (topPad b d)) i t' (s - t')
   pub fits : from ≤ length out → to ≤ length out
-  pub far : t' < s → length out < to + 35
+  pub far : t' < s → length out < to + 31
 
 pub record TrackOut (text out : List ℕ) (from : ℕ) (done : Bool) (to : ℕ) (out' : List ℕ) : Type 0 where
   pub wrote : done ≡ true → take to out' ≡ take from out ++ text
   pub fits : from ≤ length out → to ≤ length out
-  pub full : done ≡ false → (to ≡ from) × (out' ≡ out) × (length out < from + 35)
+  pub full : done ≡ false → (to ≡ from) × (out' ≡ out) × (length out < from + 31)

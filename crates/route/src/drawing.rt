@@ -9,12 +9,13 @@ ghost use Rattle.jumper.specs.Limits.{maxPairs, maxTracks};
 ghost use Rattle.jumper.specs.Rows.{AcceptedRow};
 ghost use Rattle.jumper.specs.Asked.{Asked};
 ghost use Rattle.route.specs.Table.{columns};
-ghost use Rattle.route.specs.Draw.{isUnasked, wireDrawn, allDrawn, DrawWireAnswer, DrawAllAnswer};
+ghost use Rattle.route.specs.Draw.{comesFirst, wireDrawn, allDrawn, DrawWireAnswer, DrawAllAnswer};
 use crate::column::going_left;
 use crate::column::going_right;
 use crate::column::top_pad;
 use fit::misfit::fit;
 use jumper::refusal::Refusal;
+use jumper::refusal::WIRE;
 use jumper::rows::Checked;
 
 // Wire `wire` into s + 1 places: refusals 1 to 7, WIRE, BUFFER, NOFIT. `fit` looks at the rows, so they are looked at once.
@@ -22,7 +23,7 @@ pub fn draw_wire(a: &[i32], b: &[i32], s: usize, d: i32, wire: usize, out: &mut 
     ensures { λ r. ⌜ DrawWireAnswer (now (a .entry)) (now (b .entry)) s d wire (now (out .entry)) (now (out .exit)) r ⌝ }
 {
     let found = fit(a, b, s, d);
-    if is_unasked(found) {
+    if comes_first(found) {
         return found;
     }
     if a.len() <= wire {
@@ -45,7 +46,7 @@ pub fn draw_all(a: &[i32], b: &[i32], s: usize, d: i32, out: &mut [i32]) -> Chec
     ensures { λ r. ⌜ DrawAllAnswer (now (a .entry)) (now (b .entry)) s d (now (out .entry)) (now (out .exit)) r ⌝ }
 {
     let found = fit(a, b, s, d);
-    if is_unasked(found) {
+    if comes_first(found) {
         return found;
     }
     if out.len() < places(a.len(), s) {
@@ -60,15 +61,15 @@ pub fn draw_all(a: &[i32], b: &[i32], s: usize, d: i32, out: &mut [i32]) -> Chec
     }
 }
 
-// Whether an answer of `fit` refuses what is asked. WIRE and BUFFER come after that, and before NOFIT.
-fn is_unasked(r: Checked) -> bool
-    ensures { λ q. ⌜ q ≡ isUnasked r ⌝ }
+// Whether a refusal of `fit` comes before WIRE and BUFFER: 1 to 7 do, NOFIT comes after them.
+fn comes_first(r: Checked) -> bool
+    ensures { λ q. ⌜ q ≡ comesFirst r ⌝ }
 {
     match r {
         Checked::Accepted => false,
         Checked::Refused(f) => {
             let k = f.numbers();
-            k.refusal < 8
+            k.refusal < WIRE
         }
     }
 }

@@ -128,7 +128,7 @@ module _ (s : State) (a b : List ℤ) (out : List ℕ) (at : ℕ) (c : s .cut �
         fits = g .fits;
         same = λ line rest. changed-later s (s .cut) (s .due) i t line a b rest;
         far = λ h. let n : length (take (s .wires) a) ≡ s .wires = length-take-le (s .wires) a fa in
-            let w : i < s .wires = ltb-true i (s .wires) (simp (c, d, le-leb _ _ few) at h) in g .far (omega arith);
+            let w : i < s .wires = ltb-true i (s .wires) (simp (c, d, le-leb _ _ few) at h) in let z = g .far (omega arith) in omega arith;
       }
 
 -- ---- one after the other

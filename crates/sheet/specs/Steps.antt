@@ -30,7 +30,7 @@ refusing t l r = owing t true (shown l (refusalNumbers r)) 0
 abbrev pub complete : Step → Order → Numbers → State
 complete t o k = owing t true (shown (o .line) k) (cond (eqb (k .refusal) 0) (o .pairs) 0)
 
--- after a step that completes no line
+-- after a step that completes no line; one that does never comes here, and would be planned first
 abbrev pub after : Step → Did → State
 after t Opened = quiet t
 after t Filled = quiet t

@@ -76,7 +76,7 @@ fn give_due(s: State, out: &mut [u8], at: usize) -> Giving
 }
 
 // Over slices, whose lengths are told.
-pub(crate) fn give_all(a: &[i32], b: &[i32], s: State, out: &mut [u8], at: usize) -> Giving
+fn give_all(a: &[i32], b: &[i32], s: State, out: &mut [u8], at: usize) -> Giving
     requires { ⌜ (length (now a) ≡ maxPairs) × (length (now b) ≡ maxPairs) ⌝ }
     ensures { λ r. ⌜ Given s (now (a .entry)) (now (b .entry)) (now (out .entry)) at (r .s) (r .n) (now (out .exit)) ⌝ }
 {

@@ -2,8 +2,8 @@
 // over vectors.
 ghost use mathlib.Core.Path.{_≡_};
 ghost use mathlib.Core.Logic.{_⊎_};
-ghost use Prim.Native.Nat.{ℕ, _≤_, _<_};
-ghost use lib.ListN.{length, getD};
+ghost use Prim.Native.Nat.{_≤_, _<_};
+ghost use lib.ListN.{length};
 ghost use Rattle.sheet.specs.Parts.{FeedAt};
 
 // The place of a byte if it is a line feed, else one past the run's places.

@@ -1,5 +1,4 @@
 use Rattle.frame.proofs.Signed.{ups, lows}
-use borrow.Author.Needs.{needs}
 use Rattle.frame.proofs.number.bits.Statement.{statement}
 use Rattle.frame.proofs.number.bits.Tie as tie
 

@@ -1,5 +1,4 @@
-use native.Mathlib.Omega.{arith}
-use mathlib.Core.Path.{refl, sym, _∙_}
+use mathlib.Core.Path.{refl}
 use Rattle.frame.proofs.Frames.{bottom-in, top-in, not-filled, bad-in, no-one, no-row}
 use borrow.Author.Needs.{needs}
 use Rattle.frame.proofs.read.carrier.Statement.{statement}

@@ -1,5 +1,5 @@
 use native.Mathlib.Omega.{arith}
-use mathlib.Core.Path.{_≡_, refl, sym, _∙_}
+use mathlib.Core.Path.{_≡_, sym, _∙_}
 use Prim.Native.Nat.{_≤_, _-_, _+_, _*_}
 use lib.ListN.{length, length-set}
 use Rattle.whole.proofs.Machine.{back}

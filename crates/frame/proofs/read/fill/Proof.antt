@@ -1,5 +1,5 @@
 use native.Mathlib.Omega.{arith}
-use mathlib.Core.Path.{refl, sym, _∙_}
+use mathlib.Core.Path.{refl}
 use Rattle.frame.proofs.Frames.{filled, not-said, not-sound}
 use borrow.Author.Needs.{needs}
 use Rattle.frame.proofs.read.fill.Statement.{statement}

@@ -1,5 +1,5 @@
 use native.Mathlib.Omega.{arith}
-use mathlib.Core.Path.{_≡_, refl, sym, ap, _∙_}
+use mathlib.Core.Path.{refl, sym}
 use lib.Seq.{length-take-le}
 use Rattle.frame.proofs.Frames.{empty-bad, fed-is, unfed-is, bad-read, read-as}
 use borrow.Author.Needs.{needs}

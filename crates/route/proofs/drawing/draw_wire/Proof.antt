@@ -10,15 +10,15 @@ use Rattle.route.proofs.drawing.draw_wire.Tie as tie
 fit-requires : tie.Need-fit-requires
 fit-requires c κs = search needs
 
-is-unasked-requires : tie.Need-is-unasked-requires
-is-unasked-requires c κs = search needs
+comes-first-requires : tie.Need-comes-first-requires
+comes-first-requires c κs = search needs
 
 returns : tie.Need-returns
 returns c =
     let u = c .before in
     let k = u .before in
     let ed = toZ-ofZ w32 (k .before .args .d) (k .before .fits .d) in
-    let q = unasked _ _ _ _ _ (rw ed at (k .fit .ensures)) (sym (u .is-unasked .ensures) ∙ c .if1 .taken) in
+    let q = unasked _ _ _ _ _ (rw ed at (k .fit .ensures)) (sym (u .comes-first .ensures) ∙ c .if1 .taken) in
     rw (q .1) (wire-early _ _ _ _ _ _ (q .0) (q .2))
 
 returns-2 : tie.Need-returns-2
@@ -26,7 +26,7 @@ returns-2 c =
     let u = c .before .before in
     let k = u .before in
     let ed = toZ-ofZ w32 (k .before .args .d) (k .before .fits .d) in
-    let e = asked _ _ _ _ _ (rw ed at (k .fit .ensures)) (sym (u .is-unasked .ensures) ∙ c .before .if1 .left) in
+    let e = asked _ _ _ _ _ (rw ed at (k .fit .ensures)) (sym (u .comes-first .ensures) ∙ c .before .if1 .left) in
     wire-none _ _ _ _ _ _ e (c .if2 .taken)
 
 returns-3 : tie.Need-returns-3
@@ -34,7 +34,7 @@ returns-3 c =
     let u = c .before .before .before in
     let k = u .before in
     let ed = toZ-ofZ w32 (k .before .args .d) (k .before .fits .d) in
-    let e = asked _ _ _ _ _ (rw ed at (k .fit .ensures)) (sym (u .is-unasked .ensures) ∙ c .before .before .if1 .left) in
+    let e = asked _ _ _ _ _ (rw ed at (k .fit .ensures)) (sym (u .comes-first .ensures) ∙ c .before .before .if1 .left) in
     wire-short _ _ _ _ _ _ e (c .before .if2 .left) (c .if3 .taken)
 
 enum-known-found : tie.Need-enum-known-found
@@ -49,7 +49,7 @@ draw-columns-requires c κs =
     let u = m .before .before .before in
     let k = u .before in
     let ed = toZ-ofZ w32 (k .before .args .d) (k .before .fits .d) in
-    let e = asked _ _ _ _ _ (rw ed at (k .fit .ensures)) (sym (u .is-unasked .ensures) ∙ m .before .before .if1 .left) in
+    let e = asked _ _ _ _ _ (rw ed at (k .fit .ensures)) (sym (u .comes-first .ensures) ∙ m .before .before .if1 .left) in
     (rw ed (accepted-asked _ _ _ _ e), m .before .if2 .left, m .if3 .left)
 
 returns-4 : tie.Need-returns-4
@@ -59,7 +59,7 @@ returns-4 c =
     let k = u .before in
     let ed = toZ-ofZ w32 (k .before .args .d) (k .before .fits .d) in
     let f = rw ed at (k .fit .ensures) in
-    let e = asked _ _ _ _ _ f (sym (u .is-unasked .ensures) ∙ m .before .before .if1 .left) in
+    let e = asked _ _ _ _ _ f (sym (u .comes-first .ensures) ∙ m .before .before .if1 .left) in
     wire-misfit _ _ _ _ _ _ e (m .before .if2 .left) (m .if3 .left) _ (rw (c .before .found .given .1) at f)
 
 same-length : tie.Need-same-length
@@ -73,7 +73,7 @@ returns-5 c =
     let k = u .before in
     let ed = toZ-ofZ w32 (k .before .args .d) (k .before .fits .d) in
     let f = rw ed at (k .fit .ensures) in
-    let e = asked _ _ _ _ _ f (sym (u .is-unasked .ensures) ∙ m .before .before .if1 .left) in
+    let e = asked _ _ _ _ _ f (sym (u .comes-first .ensures) ∙ m .before .before .if1 .left) in
     wire-done _ _ _ _ _ _ e (m .before .if2 .left) (m .if3 .left) _ (rw ed at (c .before .draw-columns .ensures)) (rw (t .enum-told .given .1) at f)
 
 pub draw-wire-spec : {M : Type 1} → statement M
@@ -81,7 +81,7 @@ draw-wire-spec =
     tie.close
     (tie.spec
     fit-requires
-    is-unasked-requires
+    comes-first-requires
     returns
     returns-2
     returns-3

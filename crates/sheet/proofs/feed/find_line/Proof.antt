@@ -1,5 +1,4 @@
 use native.Mathlib.Omega.{arith}
-use mathlib.Core.Path.{refl, sym, _∙_}
 use mathlib.Core.Logic.{⊎-elim}
 use Rattle.sheet.proofs.Lines.{stands, goes-on}
 use borrow.Author.Needs.{needs}

@@ -1,7 +1,7 @@
 use native.Mathlib.Omega.{arith}
-use mathlib.Core.Path.{_≡_, refl, sym, _∙_}
+use mathlib.Core.Path.{_≡_, refl, _∙_}
 use mathlib.Core.List.{List, _++_}
-use Prim.Native.Nat.{ℕ, _≤_, _<_, _-_}
+use Prim.Native.Nat.{ℕ, _≤_, _-_}
 use lib.ListN.{length, drop, take}
 use Rattle.sheet.specs.Owes.{framesFrom}
 use Rattle.sheet.proofs.Lines.{NoFeed, byte-kept, length-kept, stored-grown, kept-more, kept-end}

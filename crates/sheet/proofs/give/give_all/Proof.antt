@@ -1,5 +1,5 @@
 use native.Mathlib.Omega.{arith}
-use mathlib.Core.Path.{_≡_, sym, _∙_}
+use mathlib.Core.Path.{_∙_}
 use Rattle.sheet.proofs.Gives.{given-on, given-end, given-then, none-left}
 use borrow.Author.Needs.{needs}
 use Rattle.sheet.proofs.give.give_all.Statement.{statement}

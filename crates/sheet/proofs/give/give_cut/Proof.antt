@@ -1,4 +1,4 @@
-use mathlib.Core.Path.{sym, _∙_, ap}
+use mathlib.Core.Path.{_∙_, ap}
 use Rattle.sheet.specs.Machine.{shown}
 use Rattle.sheet.proofs.Gives.{cut-none, cut-full, cut-put}
 use borrow.Author.Needs.{needs}

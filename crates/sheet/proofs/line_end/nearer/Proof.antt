@@ -1,7 +1,6 @@
 use native.Mathlib.Omega.{arith}
 use mathlib.Core.Path.{refl}
 use mathlib.Core.Logic.{inl, inr}
-use borrow.Author.Needs.{needs}
 use Rattle.sheet.proofs.line_end.nearer.Statement.{statement}
 use Rattle.sheet.proofs.line_end.nearer.Tie as tie
 
