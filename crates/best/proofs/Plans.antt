@@ -1,7 +1,7 @@
 -- The whole call on accepted rows, over plain lists: lowered, climbed, and the range read.
 use mathlib.Core.Path.{_≡_, sym, ap, _∙_}
 use mathlib.Core.List.{List}
-use Prim.Native.Nat.{ℕ, _<_, min}
+use Prim.Native.Nat.{ℕ, _<_}
 use native.Mathlib.Omega.{arith}
 use lib.ListN.{length}
 use lib.IntN.{ℤ}
@@ -9,11 +9,9 @@ use Rattle.wiring.specs.Wiring.{pad}
 use Rattle.wiring.specs.Fit.{leanOf, Rising}
 use Rattle.wiring.specs.Tracks.{tracksFor}
 use Rattle.wiring.proofs.Rule.{lean-steady}
-use Rattle.jumper.specs.Limits.{maxPairs}
 use Rattle.jumper.specs.Rows.{AcceptedRows}
 use Rattle.jumper.specs.Span.{rangeOf}
 use Rattle.jumper.specs.declared.range.OffsetRange.{OffsetRange}
-use Rattle.jumper.proofs.Wired.{tracks-told}
 use Rattle.best.specs.Halving.{Halving, halving}
 use Rattle.best.specs.Work.{Filled, Halvable, Keeps, Room, Climbable, Climbed, Plannable, IsPlanned}
 use Rattle.best.specs.declared.level.Level.{Level}
@@ -79,7 +77,7 @@ module _ (a b x y hx hy : List ℤ) (l : List ℕ) (p : Plannable a b l) (room :
           kept = λ g. c .level .kept g ∙ rw (← c .level .best) ranges;
         }
 
-    pub planned : (r : OffsetRange) (t : ℕ) → r ≡ rangeOf (length a) (pad x'') (pad y'') (u .best) → t ≡ tracksFor (min (u .best) maxPairs) → IsPlanned a b l z (record { separation = t; range = r; count = u .count })
+    pub planned : (r : OffsetRange) (t : ℕ) → r ≡ rangeOf (length a) (pad x'') (pad y'') (u .best) → t ≡ tracksFor (u .best) → IsPlanned a b l z (record { separation = t; range = r; count = u .count })
     planned r t e g =
         let s = same-halving in
         let h = halvable-lean a b (p .rows) in
@@ -87,4 +85,4 @@ module _ (a b x y hx hy : List ℤ) (l : List ℕ) (p : Plannable a b l) (room :
         let n : u .count ≡ halving (length a) (leanOf a) (leanOf b) .count = c .level .count ∙ sym (ap (λ (t : Halving). t .count) s) in
         let q : rangeOf (length a) (leanOf a) (leanOf b) (u .best) ≡ rangeOf (length a) (pad x') (pad y') (u .best) = range-agrees (length a) (leanOf a) (leanOf b) (pad x') (pad y') (filled-agrees fx) top-filled (u .best) best-inside in
         let f : r ≡ rangeOf (length a) (leanOf a) (leanOf b) (halving (length a) (leanOf a) (leanOf b) .best) = e ∙ sym ranges ∙ sym q ∙ ap (rangeOf (length a) (leanOf a) (leanOf b)) d in
-        record { planned = rw (g ∙ tracks-told (u .best) (omega (arith, best-inside, p .rows .few)), d, n, f); ladder = c .ladder ∙ rw (← s) }
+        record { planned = rw (g, d, n, f); ladder = c .ladder ∙ rw (← s) }

@@ -1,8 +1,7 @@
 -- Offsets at which accepted rows have a legal wiring.
-use mathlib.Core.Path.{_≡_}
 use mathlib.Core.List.{List}
 use mathlib.Core.Logic.{_↔_}
-use Prim.Native.Nat.{ℕ, _+_, _≤_, _<_, min}
+use Prim.Native.Nat.{ℕ, _+_, _≤_, _<_}
 use native.Mathlib.Omega.{arith}
 use lib.ListN.{length}
 use lib.IntN.{ℤ, pos}
@@ -28,10 +27,6 @@ tracks-rule {s = s} k = record { rows = k .rows; tracks = omega (arith, k .track
 
 pub asked-rule : {a b : List ℤ} {s : ℕ} {d : ℤ} → Asked a b s d → Asked a b (ruleAt s) d
 asked-rule {s = s} k = record { rows = k .rows; tracks = omega (arith, k .tracks, rule-most s); offset = k .offset }
-
--- a number that rows can ask for is told its own separation
-pub tracks-told : (n : ℕ) → n ≤ maxPairs → tracksFor (min n maxPairs) ≡ tracksFor n
-tracks-told n h = let e : min n maxPairs ≡ n = omega arith in rw e
 
 -- the separation that serves any accepted number of pairs is accepted
 pub tracks-most : (n : ℕ) → n ≤ maxPairs → tracksFor n ≤ maxTracks

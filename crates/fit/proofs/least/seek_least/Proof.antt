@@ -6,7 +6,6 @@ use lib.ListN.{length}
 use mir.Syntax.{w32}
 use mir.Val.{toZ}
 use mir.ValLaws.{toZ-ofZ}
-use Rattle.jumper.proofs.Wired.{tracks-told}
 use Rattle.fit.proofs.Leasts.{Seeking, seek-start, seek-asked, seek-next, seek-straight, seek-tracks}
 use borrow.Author.Needs.{needs}
 use Rattle.fit.proofs.least.seek_least.Statement.{statement}
@@ -52,8 +51,7 @@ returns-2 c =
     let e = toZ-ofZ w32 (s .args .d) (s .fits .d) in
     let v = rw e at (k .loop .inv) in
     let found = sym (rw e at (m .misfit-from .ensures)) ∙ f .enum-told .given .1 in
-    let told = c .tracks-for .ensures ∙ tracks-told (k .loop .s) (omega (arith, v .below, s .pre .rows .few)) in
-    rw (c .before .if2 .taken, ← told) at (seek-tracks (s .args .a .now) (s .args .b .now) (s .args .d) (s .pre) _ _ _ v found (pos-of-ne-zero (c .before .before .if1 .left)))
+    rw (c .before .if2 .taken, ← (c .tracks-for .ensures)) at (seek-tracks (s .args .a .now) (s .args .b .now) (s .args .d) (s .pre) _ _ _ v found (pos-of-ne-zero (c .before .before .if1 .left)))
 
 tracks-for-requires-2 : tie.Need-tracks-for-requires-2 Inv-loop μ-loop
 tracks-for-requires-2 c κs = search needs
@@ -67,8 +65,7 @@ returns-3 c =
     let e = toZ-ofZ w32 (s .args .d) (s .fits .d) in
     let v = rw e at (k .loop .inv) in
     let found = sym (rw e at (m .misfit-from .ensures)) ∙ f .enum-told .given .1 in
-    let told = c .tracks-for2 .ensures ∙ tracks-told (k .loop .s) (omega (arith, v .below, s .pre .rows .few)) in
-    rw (c .before .if2 .left, ← told) at (seek-tracks (s .args .a .now) (s .args .b .now) (s .args .d) (s .pre) _ _ _ v found (pos-of-ne-zero (c .before .before .if1 .left)))
+    rw (c .before .if2 .left, ← (c .tracks-for2 .ensures)) at (seek-tracks (s .args .a .now) (s .args .b .now) (s .args .d) (s .pre) _ _ _ v found (pos-of-ne-zero (c .before .before .if1 .left)))
 
 enum-known-j : tie.Need-enum-known-j Inv-loop μ-loop
 enum-known-j c = search needs
