@@ -8,8 +8,10 @@ use borrow.Author.Tests.{lt-ltb, le-ltb}
 use lib.ListN.{length}
 use lib.IntN.{ℤ}
 use Rattle.whole.proofs.Arith.{up, down, arithℤ}
+use Rattle.wiring.specs.Wiring.{pad}
 use Rattle.wiring.specs.Fit.{leanOf}
 use Rattle.wiring.specs.Tracks.{ruleAt, tracksFor}
+use Rattle.wiring.proofs.Rule.{lean-steady}
 use Rattle.wiring.proofs.Serves.{rule-back, rule-below}
 use Rattle.jumper.specs.Refusals.{refusalNumbers}
 use Rattle.jumper.specs.Rows.{AcceptedRows, checkRows}
@@ -25,7 +27,6 @@ use Rattle.best.specs.Best.{halvingOf, ladderOf, bestAnswer, BestAnswer}
 use Rattle.best.specs.Work.{Plannable, IsPlanned}
 use Rattle.best.specs.declared.plan.Planned.{Planned}
 use Rattle.best.specs.declared.plan.Best.the-variants.{Found, Refused}
-use Rattle.best.proofs.Plans.{halvable-lean}
 use Rattle.best.proofs.Bests.{BestOf, best-is-best, count-fixed, count-cheap, ladder-length}
 
 module _ (a b : List ℤ) (before : List ℕ) where
@@ -63,7 +64,7 @@ module _ (a b : List ℤ) (before : List ℕ) where
 
     -- demand 3, of the rule's best
     best : BestOf (length a) (leanOf a) (leanOf b) (halvingOf a b .best)
-    best = let h = halvable-lean a b rows in best-is-best (length a) (leanOf a) (leanOf b) (h .some) (h .bottom) (h .top)
+    best = best-is-best (length a) (leanOf a) (leanOf b) (rows .some) (lean-steady (rows .bottom .rising)) (lean-steady {a = pad b} (rw (rows .equal) (rows .top .rising)))
 
     inside : halvingOf a b .best < length a
     inside = omega (arith, best .within, rows .some)

@@ -1,5 +1,5 @@
 -- THE LAWS OF THE HALVING: its best is the best (003, sections 3 and 4), at most half the number of pairs (lemma 2), its count is fixed by its
--- ladder and at most 12 for each pair, and it looks at its own pairs alone.
+-- ladder and at most 12 for each pair.
 use mathlib.Core.Path.{_≡_, refl, sym, _∙_}
 use mathlib.Core.Bool.{true, false}
 use mathlib.Core.List.{List, [], _∷_}
@@ -18,7 +18,6 @@ use Rattle.jumper.specs.Span.{rangeOf}
 use Rattle.jumper.proofs.Spans.{range-exactly, none-fits, half-fits}
 use Rattle.best.specs.Halving.{emptyAt, readAt, Taken, fromHalf, Halving, onePair, levelOver, halving, levels, readBetween, countUnder, ladderCount}
 use Rattle.best.proofs.Levels.{one-pair, more-pairs, one-level, more-levels, by-halving, Past, cases}
-use Rattle.best.proofs.Agree.{Agree, evens-agree, half-agrees}
 
 -- what a best separation of m pairs is
 pub record BestOf (m : ℕ) (x y : ℕ → ℤ) (b : ℕ) : Type 0 where
@@ -102,17 +101,6 @@ best-is-best =
     by-halving (λ m x y. Steady m x → Steady m y → BestOf m x y (halving m x y .best))
     (λ x y sx sy. rw (one-pair x y) (one-best x y))
     (λ m x y l ih sx sy. rw (more-pairs m x y l) (level-best m x y l sx sy (halving (half m) (evens x) (evens y) .best) (ih (evens-steady sx) (evens-steady sy)) (halving (half m) (evens x) (evens y) .count)))
-
--- what is worked out looks at the m pairs alone
-pub halving-agrees : (m : ℕ) (x y : ℕ → ℤ) → 1 ≤ m → Steady m x → Steady m y → (x' y' : ℕ → ℤ) → Agree m x x' → Agree m y y' → halving m x y ≡ halving m x' y'
-halving-agrees =
-    by-halving (λ m x y. Steady m x → Steady m y → (x' y' : ℕ → ℤ) → Agree m x x' → Agree m y y' → halving m x y ≡ halving m x' y')
-    (λ x y sx sy x' y' ax ay. one-pair x y ∙ sym (one-pair x' y'))
-    (λ m x y l ih sx sy x' y' ax ay.
-    let e = halving (half m) (evens x) (evens y) in
-    let b = best-is-best (half m) (evens x) (evens y) (omega arith) (evens-steady sx) (evens-steady sy) in
-    let q = ih (evens-steady sx) (evens-steady sy) (evens x') (evens y') (evens-agree ax) (evens-agree ay) in
-    more-pairs m x y l ∙ rw (half-agrees m x y x' y' ax ay (e .best) (e .count) l (omega (arith, b .within)), q) (sym (more-pairs m x' y' l)))
 
 -- two differences a pair at most are read before 2h is tried
 past-read : (m : ℕ) (x y : ℕ → ℤ) (h c c' : ℕ) → Past m x y h c c' → c' ≤ c + 2 * m

@@ -1,4 +1,4 @@
--- A level as `climb` works it out, over plain lists: x and y with their pairs in front, the halves in hx and hy, the ladder l.
+-- A level as `climb` works it out, over plain lists and the ladder l.
 use mathlib.Core.Path.{_≡_, refl, sym, ap, _∙_}
 use mathlib.Core.List.{List, [], _∷_, _++_}
 use Prim.Native.Nat.{ℕ, suc, _+_, _-_, _*_, _≤_, _<_}
@@ -8,14 +8,13 @@ use lib.ListN.{length, take, drop, length-drop, drop-of-length-le}
 use lib.Seq.{take-all, drop-at, drop-drop, length-take-le}
 use lib.IntN.{ℤ}
 use Rattle.whole.proofs.Arith.{up, down, arithℤ}
-use Rattle.wiring.specs.Wiring.{pad}
 use Rattle.wiring.specs.Fit.{evens, half}
 use Rattle.best.specs.Halving.{Taken, taken, fromHalf, Halving, halving}
-use Rattle.best.specs.Work.{Filled, Halvable, Choosable, IsLevel, Chosen, lowestLevel, Climbable, Climbed}
+use Rattle.best.specs.Work.{levelEntries, Choosable, IsLevel, Chosen, lowestLevel, Climbable, Halved, Climbed}
 use Rattle.best.specs.declared.level.Level.{Level}
 use Rattle.best.proofs.Levels.{one-pair, more-pairs, more-levels}
-use Rattle.best.proofs.Agree.{range-agrees, half-agrees, halvable-agrees, halvable-evens, filled-agrees, front-agrees}
-use Rattle.best.proofs.Bests.{best-is-best, halving-agrees, count-cheap}
+use Rattle.best.proofs.Bests.{best-is-best, count-cheap}
+use Rattle.best.proofs.Strides.{even-entries, even-strided, bottom-steady, top-steady}
 
 -- a part that reaches to the end is all that follows its start
 rest-is : (n : ℕ) (l : List ℕ) → midOf n (length l - n) l ≡ drop n l
@@ -31,96 +30,58 @@ no-more : (z : List ℕ) → z ++ [] ≡ z
 no-more [] = refl
 no-more (n ∷ z) = ap (λ (t : List ℕ). n ∷ t) (no-more z)
 
-module _ (x y hx hy : List ℤ) (m : ℕ) (l : List ℕ) (p : Climbable x y hx hy m l) where
-  pub one-climbed : m ≤ 1 → (l' : List ℕ) (r : Level) → l' ≡ m ∷ 0 ∷ drop 2 l → r ≡ lowestLevel → Climbed x y m l x y l' r
-  one-climbed h l' r e q =
-      let f : m ≡ 1 = omega (arith, p .rows .some) in
-      rw (f, q)
-      (record {
-        level = rw (one-pair (pad x) (pad y)) (record { best = refl; count = refl; kept = λ g. absurd (omega (arithℤ, g)) });
-        ladder = rw (one-pair (pad x) (pad y)) (rw f at e);
-        bottom = refl;
-        top = refl;
-      })
+-- one entry
+pub one-halved : (m : ℕ) (x y : ℕ → ℤ) (l l' : List ℕ) (r : Level) → m ≡ 1 → l' ≡ m ∷ 0 ∷ drop 2 l → r ≡ lowestLevel → Halved m x y l l' r
+one-halved m x y l l' r f e q =
+    rw (f, q)
+    (record {
+      level = rw (one-pair x y) (record { best = refl; count = refl; kept = λ g. absurd (omega (arithℤ, g)) });
+      ladder = rw (one-pair x y) (rw f at e);
+    })
 
-  module _ (more : 1 < m) (hx' hy' : List ℤ) (fx : Filled (evens (pad x)) (half m) hx') (fy : Filled (evens (pad y)) (half m) hy') where
-    rows-next : Halvable (half m) (pad hx') (pad hy')
-    rows-next = halvable-agrees (halvable-evens more (p .rows)) (filled-agrees fx) (filled-agrees fy)
+-- more, over what their even half comes to: its level u, and its rungs z, put back behind the level's own
+module _ (m : ℕ) (x y : ℕ → ℤ) (more : 1 < m) (l z : List ℕ) (u : Level) (under : Halved (half m) (evens x) (evens y) (midOf 2 (length l - 2) l) z u) where
+  same-choice : fromHalf m x y (u .best) (u .count) ≡ fromHalf m x y (halving (half m) (evens x) (evens y) .best) (halving (half m) (evens x) (evens y) .count)
+  same-choice = rw (under .level .best, under .level .count)
 
-    -- the even half can be climbed in what is left
-    pub climb-next : (x' y' : List ℤ) (l' : List ℕ) → length hx' ≡ length hx → length hy' ≡ length hy → length x' ≡ length x - m → length y' ≡ length y - m → length l' ≡ length l - 2
-        → Climbable hx' hy' x' y' (half m) l'
-    climb-next x' y' l' ex ey lx ly ll =
-        let r = p .room in
+  level-next : (r : Level) → Chosen m x y (u .best) (u .count) r → IsLevel m x y (taken (halving m x y .best) (halving m x y .count)) r
+  level-next r c = rw (more-pairs m x y more) (rw same-choice at c)
+
+  ladder-next : (l' : List ℕ) (b : ℕ) → 2 ≤ length l → l' ≡ m ∷ b ∷ drop 2 (putMid 2 (length l - 2) l z) → b ≡ halving m x y .best
+      → l' ≡ halving m x y .ladder ++ drop (length (halving m x y .ladder)) l
+  ladder-next l' b i el eb =
+      let e = halving (half m) (evens x) (evens y) in
+      let g = more-pairs m x y more in
+      let n : 2 + length (e .ladder) ≡ suc (suc (length (e .ladder))) = omega arith in
+      let j : z ≡ e .ladder ++ drop (suc (suc (length (e .ladder)))) l = under .ladder ∙ rw (rest-is 2 l, drop-drop (length (e .ladder)) 2 l, n) in
+      let k : b ≡ fromHalf m x y (e .best) (e .count) .best = eb ∙ ap (λ (t : Halving). t .best) g in
+      el ∙ ap (λ (t : List ℕ). m ∷ b ∷ t) (put-rest 2 l z i ∙ no-more z) ∙ rw g (rw (j, k))
+
+  pub more-halved : (r : Level) (l' : List ℕ) → 2 ≤ length l → Chosen m x y (u .best) (u .count) r → l' ≡ m ∷ r .best ∷ drop 2 (putMid 2 (length l - 2) l z) → Halved m x y l l' r
+  more-halved r l' i c el = let v = level-next r c in record { level = v; ladder = ladder-next l' (r .best) i el (v .best) }
+
+-- and for `climb`: p is the level's stride
+module _ (a b : List ℤ) (p m : ℕ) (l : List ℕ) (c : Climbable a b p m l) (more : 1 < m) where
+  pub two-rungs : 2 ≤ length l
+  two-rungs = omega (arith, c .rungs, more-levels m more)
+
+  -- the even half can be climbed in what is left of the ladder
+  pub climb-next : (l' : List ℕ) → length l' ≡ length l - 2 → Climbable a b (2 * p) (half m) l'
+  climb-next l' e = record { strided = even-strided more (c .strided); rungs = omega (arith, c .rungs, more-levels m more) }
+
+  module _ (z z' : List ℕ) (u : Level) (under : Climbed a b (2 * p) (half m) z z' u) where
+    -- what the even half came to, by the rule's name for it
+    pub by-evens : Halved (half m) (evens (levelEntries a p)) (evens (levelEntries b p)) z z' u
+    by-evens = rw (even-entries a p, even-entries b p) under
+
+    pub choose-next : Choosable 100000 a b p m (u .best) (u .count)
+    choose-next =
+        let s = even-strided more (c .strided) in
+        let x = levelEntries a (2 * p) in
+        let y = levelEntries b (2 * p) in
         record {
-          rows = rows-next;
-          room = record { bottom = omega (arith, r .halfBottom); top = omega (arith, r .halfTop); halfBottom = omega (arith, r .bottom); halfTop = omega (arith, r .top) };
-          rungs = omega (arith, p .rungs, more-levels m more);
+          strided = c .strided;
+          more = more;
+          within = omega (arith, under .level .best, best-is-best (half m) x y (s .some) (bottom-steady s) (top-steady s) .within);
+          cheap = omega (arith, under .level .count, count-cheap (half m) x y (s .some), c .strided .few);
         }
-
-    -- the even half's halving, by the rule and in its slices
-    same-half : halving (half m) (evens (pad x)) (evens (pad y)) ≡ halving (half m) (pad hx') (pad hy')
-    same-half =
-        let h = halvable-evens more (p .rows) in
-        halving-agrees (half m) (evens (pad x)) (evens (pad y)) (h .some) (h .bottom) (h .top) (pad hx') (pad hy') (filled-agrees fx) (filled-agrees fy)
-
-    module _ (x' y' : List ℤ) (bx : take m x' ≡ take m x) (by : take m y' ≡ take m y) (u : Level)
-        (under : IsLevel (half m) (pad hx') (pad hy') (taken (halving (half m) (pad hx') (pad hy') .best) (halving (half m) (pad hx') (pad hy') .count)) u) where
-      half-within : 4 * u .best ≤ m + 1
-      half-within =
-          let h = rows-next in
-          omega (arith, under .best, best-is-best (half m) (pad hx') (pad hy') (h .some) (h .bottom) (h .top) .within)
-
-      pub choose-next : length x' ≡ length x → length y' ≡ length y → Choosable 100000 m x' y' (u .best) (u .count)
-      choose-next lx ly =
-          record {
-            front = record {
-              rows = halvable-agrees (p .rows) (front-agrees m x x' bx) (front-agrees m y y' by);
-              inX = omega (arith, p .room .bottom);
-              inY = omega (arith, p .room .top);
-            };
-            more = more;
-            within = half-within;
-            cheap = omega (arith, under .count, count-cheap (half m) (pad hx') (pad hy') (rows-next .some), p .rows .few);
-          }
-
-      -- the choice, from what the rule's even half comes to
-      same-choice : fromHalf m (pad x') (pad y') (u .best) (u .count) ≡ fromHalf m (pad x) (pad y) (halving (half m) (evens (pad x)) (evens (pad y)) .best) (halving (half m) (evens (pad x)) (evens (pad y)) .count)
-      same-choice =
-          sym (half-agrees m (pad x) (pad y) (pad x') (pad y') (front-agrees m x x' bx) (front-agrees m y y' by) (u .best) (u .count) more half-within)
-          ∙ rw (same-half, under .best, under .count)
-
-      level-next : (r : Level) → Chosen m x' y' (u .best) (u .count) r → IsLevel m (pad x) (pad y) (taken (halving m (pad x) (pad y) .best) (halving m (pad x) (pad y) .count)) r
-      level-next r c =
-          let s = same-choice in
-          let h = p .rows in
-          let w = best-is-best m (pad x) (pad y) (h .some) (h .bottom) (h .top) .within in
-          let e = more-pairs m (pad x) (pad y) more in
-          let b : fromHalf m (pad x') (pad y') (u .best) (u .count) .best ≡ halving m (pad x) (pad y) .best = ap (λ (t : Taken). t .best) s ∙ sym (ap (λ (t : Halving). t .best) e) in
-          let n : fromHalf m (pad x') (pad y') (u .best) (u .count) .count ≡ halving m (pad x) (pad y) .count = ap (λ (t : Taken). t .count) s ∙ sym (ap (λ (t : Halving). t .count) e) in
-          record {
-            best = c .best ∙ b;
-            count = c .count ∙ n;
-            kept = λ g. c .kept g ∙ rw b (sym (range-agrees m (pad x) (pad y) (pad x') (pad y') (front-agrees m x x' bx) (front-agrees m y y' by) (halving m (pad x) (pad y) .best) (omega arith)));
-          }
-
-      -- the rungs below, put back behind the level's own
-      ladder-next : (z l' : List ℕ) (b : ℕ)
-          → z ≡ halving (half m) (pad hx') (pad hy') .ladder ++ drop (length (halving (half m) (pad hx') (pad hy') .ladder)) (midOf 2 (length l - 2) l)
-          → l' ≡ m ∷ b ∷ drop 2 (putMid 2 (length l - 2) l z) → b ≡ halving m (pad x) (pad y) .best
-          → l' ≡ halving m (pad x) (pad y) .ladder ++ drop (length (halving m (pad x) (pad y) .ladder)) l
-      ladder-next z l' b ez el eb =
-          let e = halving (half m) (evens (pad x)) (evens (pad y)) in
-          let g = more-pairs m (pad x) (pad y) more in
-          let n : 2 + length (e .ladder) ≡ suc (suc (length (e .ladder))) = omega arith in
-          let i : 2 ≤ length l = omega (arith, p .rungs, more-levels m more) in
-          let j : z ≡ e .ladder ++ drop (suc (suc (length (e .ladder)))) l = ez ∙ rw (rest-is 2 l, ← same-half, drop-drop (length (e .ladder)) 2 l, n) in
-          let k : b ≡ fromHalf m (pad x) (pad y) (e .best) (e .count) .best = eb ∙ ap (λ (t : Halving). t .best) g in
-          el ∙ ap (λ (t : List ℕ). m ∷ b ∷ t) (put-rest 2 l z i ∙ no-more z) ∙ rw g (rw (j, k))
-
-      pub climbed-next : (r : Level) (z l' : List ℕ) → Chosen m x' y' (u .best) (u .count) r
-          → z ≡ halving (half m) (pad hx') (pad hy') .ladder ++ drop (length (halving (half m) (pad hx') (pad hy') .ladder)) (midOf 2 (length l - 2) l)
-          → l' ≡ m ∷ r .best ∷ drop 2 (putMid 2 (length l - 2) l z) → Climbed x y m l x' y' l' r
-      climbed-next r z l' c ez el =
-          let v = level-next r c in
-          record { level = v; ladder = ladder-next z l' (r .best) ez el (v .best); bottom = bx; top = by }

@@ -1,15 +1,13 @@
--- The ends of a range, one pair more: as a trial reads them.
+-- The ends of a range, one round more: as a trial reads them.
 use mathlib.Core.Path.{_≡_, ap, _∙_}
 use mathlib.Core.List.{List}
-use Prim.Native.Nat.{ℕ, _+_, _-_, _*_, _<_}
-use native.Mathlib.Nat.{zero-add}
-use native.Mathlib.Omega.{arith}
+use Prim.Native.Nat.{ℕ, _+_, _*_}
+use native.Mathlib.Nat.{mul-zero, add-zero}
 use lib.IntN.{ℤ, _-ℤ_}
 use Rattle.whole.specs.Pick.{firstBy, largest, smallest, largerOf, smallerOf}
 use Rattle.whole.proofs.Extremes.{largest-more, smallest-more}
 use Rattle.wiring.specs.Wiring.{pad}
-use Rattle.wiring.specs.Fit.{lowEnd, highEnd}
-use Rattle.best.specs.Work.{Front, Near, trialOf}
+use Rattle.best.specs.Work.{lowRead, highRead, readOf}
 use Rattle.best.specs.declared.trial.Trial.{Trial}
 
 -- as a loop takes them
@@ -19,25 +17,20 @@ larger-step f n old new r p q e = e ∙ rw (p, q) (largest-more f n)
 pub smaller-step : (f : ℕ → ℤ) (n : ℕ) (old new r : ℤ) → old ≡ smallest f n → new ≡ f (n + 1) → r ≡ smallerOf old new → r ≡ smallest f (n + 1)
 smaller-step f n old new r p q e = e ∙ rw (p, q) (smallest-more f n)
 
--- before the first round
-pub low-first : (x y : ℕ → ℤ) (s : ℕ) → x 0 -ℤ y s ≡ largest (lowEnd x y s) 0
-unfolding firstBy
-low-first x y s = rw zero-add
+module _ (a b : List ℤ) (first step gap : ℕ) where
+  -- before the first round
+  pub low-first : pad a first -ℤ pad b (first + gap) ≡ largest (lowRead a b first step gap) 0
+  unfolding firstBy
+  low-first = rw (mul-zero step, add-zero first)
 
-pub high-first : (x y : ℕ → ℤ) (s : ℕ) → x s -ℤ y 0 ≡ smallest (highEnd x y s) 0
-unfolding firstBy
-high-first x y s = rw zero-add
+  pub high-first : pad a (first + gap) -ℤ pad b first ≡ smallest (highRead a b first step gap) 0
+  unfolding firstBy
+  high-first = rw (mul-zero step, add-zero first)
 
--- after the last round
-pub trial-read : (m : ℕ) (x y : List ℤ) (s i : ℕ) (l h : ℤ) → s < m → i ≡ m - s - 1 → l ≡ largest (lowEnd (pad x) (pad y) s) i → h ≡ smallest (highEnd (pad x) (pad y) s) i
-    → _≡_ {A = Trial} (record { range = record { low = l; high = h }; count = 2 * (i + 1) }) (trialOf m x y s)
-trial-read m x y s i l h inside e p q =
-    let n : 2 * (i + 1) ≡ 2 * (m - s) = omega arith in
-    let p' = p ∙ ap (largest (lowEnd (pad x) (pad y) s)) e in
-    let q' = q ∙ ap (smallest (highEnd (pad x) (pad y) s)) e in
-    rw (p', q', n)
-
--- the difference of two entries of the m pairs
-pub near-pair : (m : ℕ) (x y : List ℤ) (i j : ℕ) → Front m x y → i < m → j < m → Near x i y j
-near-pair m x y i j f h k =
-    record { inX = omega (arith, f .inX); inY = omega (arith, f .inY); nearX = f .rows .nearBottom i h; nearY = f .rows .nearTop j k }
+  -- after the last round
+  pub all-read : (last i : ℕ) (l h : ℤ) → i ≡ last → l ≡ largest (lowRead a b first step gap) i → h ≡ smallest (highRead a b first step gap) i
+      → _≡_ {A = Trial} (record { low = l; high = h; count = 2 * (i + 1) }) (readOf a b first step gap last)
+  all-read last i l h e p q =
+      let p' = p ∙ ap (largest (lowRead a b first step gap)) e in
+      let q' = q ∙ ap (smallest (highRead a b first step gap)) e in
+      rw (p', q', e)

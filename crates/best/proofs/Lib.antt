@@ -1,11 +1,9 @@
--- What the floors above may cite: Levels (the two equations, and induction along the levels), Agree (the halving looks at its own pairs alone) and
--- Bests (its laws). The others serve the functions of this crate: Fill and Lean the rows, Ends and Choices a trial and what is chosen by it, Ladders a
--- rung, Climbs the halving, Plans and Answers the call.
+-- What the floors above may cite: Levels (the two equations, and induction along the levels), Bests (the halving's laws) and Strides (entries read where
+-- they stand). The others serve the functions of this crate: Ends and Choices a trial and what is chosen by it, Ladders a rung, Climbs the halving, Plans
+-- and Answers the call.
 pub mod Levels
-pub mod Agree
 pub mod Bests
-mod Fill
-mod Lean
+pub mod Strides
 mod Ends
 mod Choices
 mod Ladders

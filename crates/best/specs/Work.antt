@@ -1,58 +1,85 @@
--- What the helpers ask and promise. Where they work, x and y lie in the front of a longer slice, or are a slice of their own.
+-- What the helpers ask and promise. A level reads its entries where they stand in the rows, at a stride.
+--
+-- Worked: rows 0,1,2,3,9,10,11 and 0,1,2,3,4,5,6. The level of stride 2 reads pads 0, 2, 4, 6, less 0, 2, 4, 6: x = 0,0,5,5 and y = 0,0,0,0. Its trial at 2
+-- reads a_0 - b_4 = a_2 - b_6 = -4 and a_4 - b_0 = a_6 - b_2 = 9; 4 further on and 4 less these are the ends of its range, 0..5.
+-- The ladder is 7:3, 4:2, 2:1, 1:0 and the count 22.
 use mathlib.Core.Path.{_≡_}
 use mathlib.Core.List.{List, _++_}
-use Prim.Native.Nat.{ℕ, _+_, _*_, _≤_, _<_}
-use lib.ListN.{length, take, drop}
-use lib.IntN.{ℤ, pos, natAbs}
+use Prim.Native.Nat.{ℕ, _+_, _-_, _*_, _≤_, _<_}
+use lib.ListN.{length, drop}
+use lib.IntN.{ℤ, pos, _-ℤ_, natAbs}
 use lib.Signed.{_≤ℤ_}
+use Rattle.whole.specs.Pick.{largest, smallest}
 use Rattle.wiring.specs.Wiring.{pad}
-use Rattle.wiring.specs.Fit.{Steady}
+use Rattle.wiring.specs.Fit.{leanOf}
 use Rattle.jumper.specs.Limits.{maxPairs}
 use Rattle.jumper.specs.Rows.{AcceptedRows}
 use Rattle.jumper.specs.Span.{rangeOf}
+use Rattle.jumper.specs.declared.range.OffsetRange.{OffsetRange}
 use Rattle.best.specs.Halving.{Taken, taken, readAt, fromEven, fromHalf, halving, levels}
 use Rattle.best.specs.Best.{ladderOf, plannedOf}
 use Rattle.best.specs.declared.plan.Planned.{Planned}
 use Rattle.best.specs.declared.trial.Trial.{Trial}
 use Rattle.best.specs.declared.level.Level.{Level}
 
--- the first n entries of a list are f 0 .. f (n - 1)
-pub record Filled (f : ℕ → ℤ) (n : ℕ) (out : List ℤ) : Type 0 where
-  pub entry : (i : ℕ) → i < n → pad out i ≡ f i
+-- entry j, read where it stands in a row: of x for the bottom row, of y for the top row
+abbrev pub entries : List ℤ → (first step lower : ℕ) → ℕ → ℤ
+entries a first step lower j = pad a (first + step * j) -ℤ pos (lower * j)
 
--- m entries of x and of y as the halving takes them: never falling, and far from the ends of an i32
-pub record Halvable (m : ℕ) (x y : ℕ → ℤ) : Type 0 where
+-- the entries of a level of stride p: a[p j] - p j
+abbrev pub levelEntries : List ℤ → ℕ → ℕ → ℤ
+levelEntries a p = entries a 0 p p
+
+-- m entries that all stand in accepted rows, and of which none is lowered by more than the pads from one to the next: so they never fall
+pub record Strided (a b : List ℤ) (m first step lower : ℕ) : Type 0 where
+  pub rows : AcceptedRows a b
   pub some : 1 ≤ m
   pub few : m ≤ maxPairs
-  pub bottom : Steady m x
-  pub top : Steady m y
-  pub nearBottom : (i : ℕ) → i < m → natAbs (x i) ≤ 1000000000
-  pub nearTop : (i : ℕ) → i < m → natAbs (y i) ≤ 1000000000
+  pub inside : first + step * (m - 1) < length a
+  pub lowered : lower ≤ step
 
--- m such pairs in front of two slices
-pub record Front (m : ℕ) (x y : List ℤ) : Type 0 where
-  pub rows : Halvable m (pad x) (pad y)
-  pub inX : m ≤ length x
-  pub inY : m ≤ length y
+-- the range that a trial came to
+abbrev pub rangeRead : Trial → OffsetRange
+rangeRead t = record { low = t .low; high = t .high }
 
--- entries i of x and j of y, whose difference fits an i32
-pub record Near (x : List ℤ) (i : ℕ) (y : List ℤ) (j : ℕ) : Type 0 where
-  pub inX : i < length x
-  pub inY : j < length y
-  pub nearX : natAbs (pad x i) ≤ 1000000000
-  pub nearY : natAbs (pad y j) ≤ 1000000000
+-- pads i of the bottom row and j of the top row, whose difference fits an i32
+pub record Near (a : List ℤ) (i : ℕ) (b : List ℤ) (j : ℕ) : Type 0 where
+  pub inA : i < length a
+  pub inB : j < length b
+  pub nearA : natAbs (pad a i) ≤ 1000000000
+  pub nearB : natAbs (pad b j) ≤ 1000000000
 
--- a trial at s among m pairs
-pub record Triable (m : ℕ) (x y : List ℤ) (s : ℕ) : Type 0 where
-  pub front : Front m x y
+-- the two differences of columns that are read from pad first + step i on, `gap` pads apart
+abbrev pub lowRead : (a b : List ℤ) (first step gap : ℕ) → ℕ → ℤ
+lowRead a b first step gap i = pad a (first + step * i) -ℤ pad b (first + step * i + gap)
+
+abbrev pub highRead : (a b : List ℤ) (first step gap : ℕ) → ℕ → ℤ
+highRead a b first step gap i = pad a (first + step * i + gap) -ℤ pad b (first + step * i)
+
+pub record Readable (a b : List ℤ) (first step gap last : ℕ) : Type 0 where
+  pub rows : AcceptedRows a b
+  pub few : last < maxPairs
+  pub inside : first + step * last + gap < length a
+
+abbrev pub readOf : (a b : List ℤ) (first step gap last : ℕ) → Trial
+readOf a b first step gap last =
+    record {
+      low = largest (lowRead a b first step gap) last;
+      high = smallest (highRead a b first step gap) last;
+      count = 2 * (last + 1);
+    }
+
+-- a trial at s among m entries
+pub record Triable (a b : List ℤ) (m s first step lower : ℕ) : Type 0 where
+  pub strided : Strided a b m first step lower
   pub inside : s < m
 
-abbrev pub trialOf : (m : ℕ) (x y : List ℤ) (s : ℕ) → Trial
-trialOf m x y s = record { range = rangeOf m (pad x) (pad y) s; count = readAt m s }
+abbrev pub trialOf : (m : ℕ) (x y : ℕ → ℤ) (s : ℕ) → Trial
+trialOf m x y s = record { low = rangeOf m x y s .low; high = rangeOf m x y s .high; count = readAt m s }
 
--- more than one pair, the best h of the even half, and c differences read before, which are not too many
-pub record Choosable (most m : ℕ) (x y : List ℤ) (h c : ℕ) : Type 0 where
-  pub front : Front m x y
+-- a level of stride p with more than one entry, the best h of its even half, and c differences read before, which are not too many
+pub record Choosable (most : ℕ) (a b : List ℤ) (p m h c : ℕ) : Type 0 where
+  pub strided : Strided a b m 0 p p
   pub more : 1 < m
   pub within : 4 * h ≤ m + 1
   pub cheap : c ≤ most
@@ -63,47 +90,33 @@ pub record IsLevel (m : ℕ) (x y : ℕ → ℤ) (t : Taken) (r : Level) : Type 
   pub count : r .count ≡ t .count
   pub kept : r .range .low ≤ℤ r .range .high → r .range ≡ rangeOf m x y (t .best)
 
-abbrev pub EvenTried : (m : ℕ) (x y : List ℤ) (h c : ℕ) (r : Level) → Type 0
-EvenTried m x y h c r = IsLevel m (pad x) (pad y) (fromEven m (pad x) (pad y) h c) r
+abbrev pub EvenTried : (m : ℕ) (x y : ℕ → ℤ) (h c : ℕ) (r : Level) → Type 0
+EvenTried m x y h c r = IsLevel m x y (fromEven m x y h c) r
 
-abbrev pub Chosen : (m : ℕ) (x y : List ℤ) (h c : ℕ) (r : Level) → Type 0
-Chosen m x y h c r = IsLevel m (pad x) (pad y) (fromHalf m (pad x) (pad y) h c) r
+abbrev pub Chosen : (m : ℕ) (x y : ℕ → ℤ) (h c : ℕ) (r : Level) → Type 0
+Chosen m x y h c r = IsLevel m x y (fromHalf m x y h c) r
 
 -- the level of one pair
 abbrev pub lowestLevel : Level
 lowestLevel = record { best = 0; range = record { low = pos 1; high = pos 0 }; count = 0 }
 
--- a level's range, kept or not yet read
-pub record Keeps (m : ℕ) (x y : List ℤ) (l : Level) : Type 0 where
-  pub front : Front m x y
-  pub inside : l .best < m
-  pub kept : l .range .low ≤ℤ l .range .high → l .range ≡ rangeOf m (pad x) (pad y) (l .best)
+-- the range of the whole rows' level, kept or not yet read
+pub record Keeps (a b : List ℤ) (l : Level) : Type 0 where
+  pub rows : AcceptedRows a b
+  pub inside : l .best < length a
+  pub kept : l .range .low ≤ℤ l .range .high → l .range ≡ rangeOf (length a) (leanOf a) (leanOf b) (l .best)
 
--- how many pairs a small room and a middle one take
-abbrev pub smallRoom : ℕ
-smallRoom = 64
-
-abbrev pub middleRoom : ℕ
-middleRoom = 512
-
--- room in which m pairs can be halved: in x and y for the pairs and behind them every second half, in hx and hy for the other halves
-pub record Room (m : ℕ) (x y hx hy : List ℤ) : Type 0 where
-  pub bottom : 2 * m ≤ length x + 1
-  pub top : 2 * m ≤ length y + 1
-  pub halfBottom : m ≤ length hx
-  pub halfTop : m ≤ length hy
-
-pub record Climbable (x y hx hy : List ℤ) (m : ℕ) (ladder : List ℕ) : Type 0 where
-  pub rows : Halvable m (pad x) (pad y)
-  pub room : Room m x y hx hy
+pub record Climbable (a b : List ℤ) (p m : ℕ) (ladder : List ℕ) : Type 0 where
+  pub strided : Strided a b m 0 p p
   pub rungs : 2 * levels m ≤ length ladder
 
--- the level is the rule's, and so is the ladder; the m pairs are as they were
-pub record Climbed (x y : List ℤ) (m : ℕ) (before : List ℕ) (x' y' : List ℤ) (after : List ℕ) (r : Level) : Type 0 where
-  pub level : IsLevel m (pad x) (pad y) (taken (halving m (pad x) (pad y) .best) (halving m (pad x) (pad y) .count)) r
-  pub ladder : after ≡ halving m (pad x) (pad y) .ladder ++ drop (length (halving m (pad x) (pad y) .ladder)) before
-  pub bottom : take m x' ≡ take m x
-  pub top : take m y' ≡ take m y
+-- the level is the rule's, and so is the ladder
+pub record Halved (m : ℕ) (x y : ℕ → ℤ) (before after : List ℕ) (r : Level) : Type 0 where
+  pub level : IsLevel m x y (taken (halving m x y .best) (halving m x y .count)) r
+  pub ladder : after ≡ halving m x y .ladder ++ drop (length (halving m x y .ladder)) before
+
+abbrev pub Climbed : (a b : List ℤ) (p m : ℕ) (before after : List ℕ) (r : Level) → Type 0
+Climbed a b p m before after r = Halved m (levelEntries a p) (levelEntries b p) before after r
 
 -- accepted rows, and room for their ladder; and what they come to
 pub record Plannable (a b : List ℤ) (ladder : List ℕ) : Type 0 where

@@ -5,7 +5,7 @@ ghost use Prim.Native.Nat.{_≤_};
 ghost use lib.ListN.{length, drop};
 ghost use Rattle.jumper.specs.Limits.{maxPairs};
 ghost use Rattle.best.specs.Halving.{levels};
-ghost use Rattle.best.specs.Work.{Choosable, EvenTried, Chosen, lowestLevel};
+ghost use Rattle.best.specs.Work.{Choosable, EvenTried, Chosen, lowestLevel, levelEntries};
 use crate::trial::try_at;
 use jumper::range::OffsetRange;
 
@@ -28,42 +28,42 @@ pub(crate) fn lowest() -> Level
 }
 
 // 2h, else 2h + 1 without a trial.
-fn try_even(x: &[i32], y: &[i32], m: usize, h: usize, read: usize) -> Level
-    requires { ⌜ Choosable 200000 m (now x) (now y) h read ⌝ }
-    ensures { λ r. ⌜ EvenTried m (now (x .entry)) (now (y .entry)) h read r ⌝ }
+fn try_even(a: &[i32], b: &[i32], step: usize, m: usize, h: usize, read: usize) -> Level
+    requires { ⌜ Choosable 200000 (now a) (now b) step m h read ⌝ }
+    ensures { λ r. ⌜ EvenTried m (levelEntries (now (a .entry)) step) (levelEntries (now (b .entry)) step) h read r ⌝ }
 {
-    let s = 2 * h;
-    let tried = try_at(x, y, m, s);
-    let range = tried.range;
+    let even = 2 * h;
+    let tried = try_at(a, b, m, even, 0, step, step);
+    let range = tried.range();
     let count = read + tried.count;
     if range.is_empty() {
-        let best = s + 1;
+        let best = even + 1;
         return Level { best, range, count };
     }
     Level {
-        best: s,
+        best: even,
         range,
         count,
     }
 }
 
 // 2h - 1 if h is not 0, then 2h.
-pub(crate) fn choose(x: &[i32], y: &[i32], m: usize, h: usize, read: usize) -> Level
-    requires { ⌜ Choosable 100000 m (now x) (now y) h read ⌝ }
-    ensures { λ r. ⌜ Chosen m (now (x .entry)) (now (y .entry)) h read r ⌝ }
+pub(crate) fn choose(a: &[i32], b: &[i32], step: usize, m: usize, h: usize, read: usize) -> Level
+    requires { ⌜ Choosable 100000 (now a) (now b) step m h read ⌝ }
+    ensures { λ r. ⌜ Chosen m (levelEntries (now (a .entry)) step) (levelEntries (now (b .entry)) step) h read r ⌝ }
 {
     if h == 0 {
-        return try_even(x, y, m, h, read);
+        return try_even(a, b, step, m, h, read);
     }
-    let s = 2 * h - 1;
-    let tried = try_at(x, y, m, s);
-    let range = tried.range;
+    let odd = 2 * h - 1;
+    let tried = try_at(a, b, m, odd, 0, step, step);
+    let range = tried.range();
     let count = read + tried.count;
     if range.is_empty() {
-        return try_even(x, y, m, h, count);
+        return try_even(a, b, step, m, h, count);
     }
     Level {
-        best: s,
+        best: odd,
         range,
         count,
     }

@@ -2,5 +2,4 @@
 mod climb;
 mod level;
 pub mod plan;
-mod rows;
 mod trial;

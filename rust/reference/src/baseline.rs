@@ -220,22 +220,32 @@ fn no_offset(a: &[i32], b: &[i32], s: usize, found: Range) -> Numbers {
 
 /// Best separation, its range, the count, and the ladder.
 pub fn best_with_ladder(a: &[i32], b: &[i32], buffer: &mut [usize]) -> Numbers {
-    flat(try_best(a, b, buffer))
+    flat(try_best(a, b, buffer, |ladder| halve(a, b, a.len(), 1, ladder)))
 }
 
 /// The same with no ladder handed out.
 pub fn best(a: &[i32], b: &[i32]) -> Numbers {
-    flat(try_best(a, b, &mut [0; 2 * MOST_LEVELS]))
+    best_with_ladder(a, b, &mut [0; 2 * MOST_LEVELS])
 }
 
-fn try_best(a: &[i32], b: &[i32], buffer: &mut [usize]) -> Result<Numbers, Numbers> {
+/// The same, where each level copies its even half out, to arrays of its own.
+pub fn best_by_copies(a: &[i32], b: &[i32], buffer: &mut [usize]) -> Numbers {
+    flat(try_best(a, b, buffer, |ladder| halve_copies(a, b, 1, ladder)))
+}
+
+fn try_best(
+    a: &[i32],
+    b: &[i32],
+    buffer: &mut [usize],
+    halved: impl FnOnce(&mut [usize]) -> Halved,
+) -> Result<Numbers, Numbers> {
     check_rows(a, b)?;
     // Sizes go n, n/2 rounded up .. 1.
     let levels = a.len().next_power_of_two().ilog2() as usize + 1;
     if buffer.len() < 2 * levels {
         return Err(Numbers::refused(BUFFER));
     }
-    let found = halve(a, b, 1, buffer);
+    let found = halved(buffer);
     let offsets = match found.offsets {
         Some(offsets) => offsets,
         None => ends(a, b, found.separation, 1),
@@ -256,25 +266,37 @@ struct Halved {
     count: usize,
 }
 
-/// One level: the even half is copied out and solved first, then one or two trials decide.
-fn halve(a: &[i32], b: &[i32], step: usize, ladder: &mut [usize]) -> Halved {
-    let m = a.len();
+/// One level of m entries, read where they stand: entry j is pad `step * j`. Its even half has
+/// twice the step and is solved first, then one or two trials decide.
+fn halve(a: &[i32], b: &[i32], m: usize, step: usize, ladder: &mut [usize]) -> Halved {
     if m == 1 {
-        ladder[..2].copy_from_slice(&[1, 0]);
-        return Halved {
-            separation: 0,
-            offsets: None,
-            count: 0,
-        };
+        return one_pair(ladder);
     }
+    let below = halve(a, b, m.div_ceil(2), 2 * step, &mut ladder[2..]);
+    // Where the step is known the compiler can make vector code.
+    decide(m, below, ladder, |s| match step {
+        1 => ends(a, b, s, 1),
+        2 => ends_apart(a, b, m, s, 2),
+        _ => ends_apart(a, b, m, s, step),
+    })
+}
 
-    let half = m.div_ceil(2);
-    let mut even_a = [0i32; MOST_PAIRS / 2];
-    let mut even_b = [0i32; MOST_PAIRS / 2];
-    copy_even(a, &mut even_a[..half]);
-    copy_even(b, &mut even_b[..half]);
-    let below = halve(&even_a[..half], &even_b[..half], 2 * step, &mut ladder[2..]);
+fn one_pair(ladder: &mut [usize]) -> Halved {
+    ladder[..2].copy_from_slice(&[1, 0]);
+    Halved {
+        separation: 0,
+        offsets: None,
+        count: 0,
+    }
+}
 
+#[inline]
+fn decide(
+    m: usize,
+    below: Halved,
+    ladder: &mut [usize],
+    trial: impl Fn(usize) -> Range,
+) -> Halved {
     let h = below.separation;
     let mut found = Halved {
         separation: 2 * h + 1,
@@ -283,7 +305,7 @@ fn halve(a: &[i32], b: &[i32], step: usize, ladder: &mut [usize]) -> Halved {
     };
     for s in (2 * h).saturating_sub(1)..=2 * h {
         found.count += 2 * (m - s);
-        let offsets = ends(a, b, s, step);
+        let offsets = trial(s);
         if !offsets.is_empty() {
             found.separation = s;
             found.offsets = Some(offsets);
@@ -292,6 +314,40 @@ fn halve(a: &[i32], b: &[i32], step: usize, ladder: &mut [usize]) -> Halved {
     }
     ladder[..2].copy_from_slice(&[m, found.separation]);
     found
+}
+
+/// The two ends of the range at s among m entries that stand `step` pads apart. Of what was tried
+/// in safe Rust (indices, `step_by`, `chunks`) indices are the fastest.
+#[inline]
+fn ends_apart(a: &[i32], b: &[i32], m: usize, s: usize, step: usize) -> Range {
+    let gap = step * s;
+    let mut lowest = i32::MIN;
+    let mut highest = i32::MAX;
+    let mut i = 0;
+    for _ in 0..m - s {
+        lowest = lowest.max(a[i] - b[i + gap]);
+        highest = highest.min(a[i + gap] - b[i]);
+        i += step;
+    }
+    Range {
+        lowest: lowest + gap as i32,
+        highest: highest - gap as i32,
+    }
+}
+
+/// One level: the even half is copied out and solved first, then one or two trials decide.
+fn halve_copies(a: &[i32], b: &[i32], step: usize, ladder: &mut [usize]) -> Halved {
+    let m = a.len();
+    if m == 1 {
+        return one_pair(ladder);
+    }
+    let half = m.div_ceil(2);
+    let mut even_a = [0i32; MOST_PAIRS / 2];
+    let mut even_b = [0i32; MOST_PAIRS / 2];
+    copy_even(a, &mut even_a[..half]);
+    copy_even(b, &mut even_b[..half]);
+    let below = halve_copies(&even_a[..half], &even_b[..half], 2 * step, &mut ladder[2..]);
+    decide(m, below, ladder, |s| ends(a, b, s, step))
 }
 
 fn copy_even(from: &[i32], to: &mut [i32]) {

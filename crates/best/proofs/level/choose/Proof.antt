@@ -3,7 +3,7 @@ use Prim.Native.Nat.{_*_, _-_}
 use native.Mathlib.Nat.{pos-of-ne-zero}
 use native.Mathlib.Omega.{arith}
 use borrow.Author.Needs.{needs}
-use Rattle.wiring.specs.Wiring.{pad}
+use Rattle.best.specs.Work.{levelEntries}
 use Rattle.best.proofs.Levels.{from-none}
 use Rattle.best.proofs.Choices.{open-odd, past-odd, trial-few}
 use Rattle.best.proofs.level.choose.Statement.{statement}
@@ -15,22 +15,25 @@ try-even-requires c κs = search needs
 returns : tie.Need-returns
 returns c =
     let a = c .before .before .args in
-    rw (from-none (a .m) (pad (a .x .now)) (pad (a .y .now)) (a .h) (a .read) (c .before .if1 .taken)) (c .try-even .ensures)
+    rw (from-none (a .m) (levelEntries (a .a .now) (a .step)) (levelEntries (a .b .now) (a .step)) (a .h) (a .read) (c .before .if1 .taken)) (c .try-even .ensures)
 
-mul-s : tie.Need-mul-s
-mul-s c = search needs
+mul-odd : tie.Need-mul-odd
+mul-odd c = search needs
 
-sub-s : tie.Need-sub-s
-sub-s c = search needs
+sub-odd : tie.Need-sub-odd
+sub-odd c = search needs
 
 try-at-requires : tie.Need-try-at-requires
 try-at-requires c κs = search needs
+
+range-requires : tie.Need-range-requires
+range-requires c κs = search needs
 
 add-count : tie.Need-add-count
 add-count c =
     let k = c .before .before in
     let s = k .before .before in
-    omega (arith, trial-few (s .args .m) (s .args .x .now) (s .args .y .now) (2 * s .args .h - 1) (k .try-at .result) (k .try-at .ensures), s .pre .cheap, s .pre .front .rows .few)
+    omega (arith, trial-few (s .args .m) (levelEntries (s .args .a .now) (s .args .step)) (levelEntries (s .args .b .now) (s .args .step)) (2 * s .args .h - 1) (k .try-at .result) (k .try-at .ensures), s .pre .cheap, s .pre .strided .few)
 
 is-empty-requires : tie.Need-is-empty-requires
 is-empty-requires c κs = search needs
@@ -40,22 +43,26 @@ try-even-requires-2 c κs =
     let k = c .before .before .before .before in
     let s = k .before .before in
     let p = s .pre in
-    record { front = p .front; more = p .more; within = p .within; cheap = omega (arith, trial-few (s .args .m) (s .args .x .now) (s .args .y .now) (2 * s .args .h - 1) (k .try-at .result) (k .try-at .ensures), p .cheap, p .front .rows .few) }
+    record { strided = p .strided; more = p .more; within = p .within; cheap = omega (arith, trial-few (s .args .m) (levelEntries (s .args .a .now) (s .args .step)) (levelEntries (s .args .b .now) (s .args .step)) (2 * s .args .h - 1) (k .try-at .result) (k .try-at .ensures), p .cheap, p .strided .few) }
 
 returns-2 : tie.Need-returns-2
 returns-2 c =
     let j = c .before in
-    let k = j .before .before .before .before in
+    let g = j .before .before .before in
+    let k = g .before in
     let r = k .try-at .result in
     let a = k .before .before .args in
-    past-odd (a .m) (a .x .now) (a .y .now) (a .h) (a .read) r _ (pos-of-ne-zero (k .before .if1 .left)) (k .try-at .ensures) (sym (j .before .is-empty .ensures .0) ∙ j .if2 .taken) (c .try-even2 .ensures)
+    past-odd (a .m) (levelEntries (a .a .now) (a .step)) (levelEntries (a .b .now) (a .step)) (a .h) (a .read)
+    r (g .range .result) (g .range .ensures) _ (pos-of-ne-zero (k .before .if1 .left)) (k .try-at .ensures) (sym (j .before .is-empty .ensures .0) ∙ j .if2 .taken) (c .try-even2 .ensures)
 
 returns-3 : tie.Need-returns-3
 returns-3 c =
-    let k = c .before .before .before .before in
+    let g = c .before .before .before in
+    let k = g .before in
     let r = k .try-at .result in
     let a = k .before .before .args in
-    open-odd (a .m) (a .x .now) (a .y .now) (a .h) (a .read) r (pos-of-ne-zero (k .before .if1 .left)) (k .try-at .ensures) (sym (c .before .is-empty .ensures .0) ∙ c .if2 .left)
+    open-odd (a .m) (levelEntries (a .a .now) (a .step)) (levelEntries (a .b .now) (a .step)) (a .h) (a .read)
+    r (g .range .result) (g .range .ensures) (pos-of-ne-zero (k .before .if1 .left)) (k .try-at .ensures) (sym (c .before .is-empty .ensures .0) ∙ c .if2 .left)
 
 pub choose-spec : {M : Type 1} → statement M
 choose-spec =
@@ -63,9 +70,10 @@ choose-spec =
     (tie.spec
     try-even-requires
     returns
-    mul-s
-    sub-s
+    mul-odd
+    sub-odd
     try-at-requires
+    range-requires
     add-count
     is-empty-requires
     try-even-requires-2

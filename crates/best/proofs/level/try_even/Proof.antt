@@ -2,21 +2,25 @@ use mathlib.Core.Path.{sym, _∙_}
 use Prim.Native.Nat.{_*_}
 use native.Mathlib.Omega.{arith}
 use borrow.Author.Needs.{needs}
+use Rattle.best.specs.Work.{levelEntries}
 use Rattle.best.proofs.Choices.{empty-even, open-even, trial-few}
 use Rattle.best.proofs.level.try_even.Statement.{statement}
 use Rattle.best.proofs.level.try_even.Tie as tie
 
-mul-s : tie.Need-mul-s
-mul-s c = search needs
+mul-even : tie.Need-mul-even
+mul-even c = search needs
 
 try-at-requires : tie.Need-try-at-requires
 try-at-requires c κs = search needs
+
+range-requires : tie.Need-range-requires
+range-requires c κs = search needs
 
 add-count : tie.Need-add-count
 add-count c =
     let at-try-at = c .before .before in
     let k = c .before .before .before in
-    omega (arith, trial-few (k .args .m) (k .args .x .now) (k .args .y .now) (2 * k .args .h) (at-try-at .try-at .result) (at-try-at .try-at .ensures), k .pre .cheap, k .pre .front .rows .few)
+    omega (arith, trial-few (k .args .m) (levelEntries (k .args .a .now) (k .args .step)) (levelEntries (k .args .b .now) (k .args .step)) (2 * k .args .h) (at-try-at .try-at .result) (at-try-at .try-at .ensures), k .pre .cheap, k .pre .strided .few)
 
 is-empty-requires : tie.Need-is-empty-requires
 is-empty-requires c κs = search needs
@@ -26,17 +30,21 @@ add-best c = search needs
 
 returns : tie.Need-returns
 returns c =
-    let k = c .before .before .before .before in
+    let g = c .before .before .before in
+    let k = g .before in
     let r = k .try-at .result in
     let a = k .before .args in
-    empty-even (a .m) (a .x .now) (a .y .now) (a .h) (a .read) r (k .try-at .ensures) (sym (c .before .is-empty .ensures .0) ∙ c .if1 .taken)
+    empty-even (a .m) (levelEntries (a .a .now) (a .step)) (levelEntries (a .b .now) (a .step)) (a .h) (a .read)
+    r (g .range .result) (g .range .ensures) (k .try-at .ensures) (sym (c .before .is-empty .ensures .0) ∙ c .if1 .taken)
 
 returns-2 : tie.Need-returns-2
 returns-2 c =
-    let k = c .before .before .before .before in
+    let g = c .before .before .before in
+    let k = g .before in
     let r = k .try-at .result in
     let a = k .before .args in
-    open-even (a .m) (a .x .now) (a .y .now) (a .h) (a .read) r (k .try-at .ensures) (sym (c .before .is-empty .ensures .0) ∙ c .if1 .left)
+    open-even (a .m) (levelEntries (a .a .now) (a .step)) (levelEntries (a .b .now) (a .step)) (a .h) (a .read)
+    r (g .range .result) (g .range .ensures) (k .try-at .ensures) (sym (c .before .is-empty .ensures .0) ∙ c .if1 .left)
 
 pub try-even-spec : {M : Type 1} → statement M
-try-even-spec = tie.close (tie.spec mul-s try-at-requires add-count is-empty-requires add-best returns returns-2)
+try-even-spec = tie.close (tie.spec mul-even try-at-requires range-requires add-count is-empty-requires add-best returns returns-2)

@@ -1,6 +1,9 @@
 use mathlib.Core.Path.{sym, _∙_}
 use borrow.Author.Needs.{needs}
+use Rattle.wiring.specs.Fit.{leanOf}
+use Rattle.best.proofs.Strides.{whole-strided}
 use Rattle.best.proofs.Choices.{read-range, kept-range}
+use Rattle.best.proofs.Plans.{whole-trial}
 use Rattle.best.proofs.plan.kept_or_read.Statement.{statement}
 use Rattle.best.proofs.plan.kept_or_read.Tie as tie
 
@@ -8,19 +11,20 @@ is-empty-requires : tie.Need-is-empty-requires
 is-empty-requires c κs = search needs
 
 try-at-requires : tie.Need-try-at-requires
-try-at-requires c κs = search needs
+try-at-requires c κs = let p = c .before .before .before .pre in record { strided = whole-strided (p .rows); inside = p .inside }
+
+range-requires : tie.Need-range-requires
+range-requires c κs = search needs
 
 returns : tie.Need-returns
 returns c =
     let k = c .before in
     let a = k .before .before .before .before .args in
-    read-range (a .m) (a .x .now) (a .y .now) (a .level .best) (k .try-at .result) (k .try-at .ensures)
+    read-range _ (leanOf (a .a .now)) (leanOf (a .b .now)) (a .level .best) (k .try-at .result) (c .range2 .result) (whole-trial (a .a .now) (a .b .now) (a .level .best) (k .try-at .result) (k .try-at .ensures)) (c .range2 .ensures)
 
 returns-2 : tie.Need-returns-2
 returns-2 c =
-    let k = c .before .before .before in
-    let a = k .args in
-    kept-range (a .m) (a .x .now) (a .y .now) (a .level) (k .pre) (sym (c .before .is-empty .ensures .0) ∙ c .if1 .left)
+    kept-range (c .before .before .before .pre) (sym (c .before .is-empty .ensures .0) ∙ c .if1 .left)
 
 pub kept-or-read-spec : {M : Type 1} → statement M
-kept-or-read-spec = tie.close (tie.spec is-empty-requires try-at-requires returns returns-2)
+kept-or-read-spec = tie.close (tie.spec is-empty-requires try-at-requires range-requires returns returns-2)

@@ -19,21 +19,21 @@ mul-result-2 c = search needs
 shared-slice-copy-out-result-2 : tie.Need-shared-slice-copy-out-result-2
 shared-slice-copy-out-result-2 c = search needs
 
-fits : (k : tie.Start) → mag (pad (k .args .x .now) (k .args .i) -ℤ pad (k .args .y .now) (k .args .j)) < 2 ^ 31
+fits : (k : tie.Start) → mag (pad (k .args .a .now) (k .args .i) -ℤ pad (k .args .b .now) (k .args .j)) < 2 ^ 31
 fits k =
-    dif-fits (pad (k .args .x .now) (k .args .i)) (pad (k .args .y .now) (k .args .j)) (k .pre .nearX) (k .pre .nearY)
+    dif-fits (pad (k .args .a .now) (k .args .i)) (pad (k .args .b .now) (k .args .j)) (k .pre .nearA) (k .pre .nearB)
 
 sub-result : tie.Need-sub-result
 sub-result c =
     let k = c .before .before in
-    rw (back (pad (k .args .x .now) (k .args .i)) (c .before .result .given), back (pad (k .args .y .now) (k .args .j)) (c .result2 .given))
+    rw (back (pad (k .args .a .now) (k .args .i)) (c .before .result .given), back (pad (k .args .b .now) (k .args .j)) (c .result2 .given))
     (record { sfits = fits k })
 
 returns : tie.Need-returns
 returns c =
     let k = c .before .before in
-    let x = pad (k .args .x .now) (k .args .i) in
-    let y = pad (k .args .y .now) (k .args .j) in
+    let x = pad (k .args .a .now) (k .args .i) in
+    let y = pad (k .args .b .now) (k .args .j) in
     rw (back x (c .before .result .given), back y (c .result2 .given)) (back (x -ℤ y) (fits k))
 
 pub difference-spec : {M : Type 1} → statement M

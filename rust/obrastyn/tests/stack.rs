@@ -1,0 +1,79 @@
+//! The planning terminal has a small stack (02, #104). What a call takes of it is measured by painting: all that lies below the caller is filled with one
+//! byte, the call is made, and the lowest place that changed tells how far down it went.
+//!
+//! `cargo test --release --offline --test stack -- --nocapture` prints the figures of docs/SPEED.md.
+use std::arch::asm;
+use std::hint::black_box;
+
+const PAINT: u8 = 0xA5;
+const PAINTED: usize = 1 << 18;
+
+/// How many bytes of stack `call` takes, its return address among them.
+#[inline(never)]
+fn taken(call: impl FnOnce()) -> usize {
+    let top: usize;
+    // SAFETY: the stack of the thread is far larger than what is painted, and nothing that is in use lies below the stack pointer but the red zone, which
+    // no function keeps over a call. The painting itself makes no call.
+    unsafe {
+        asm!(
+            "mov {top}, rsp",
+            "mov rdi, rsp",
+            "sub rdi, {painted}",
+            "mov ecx, {painted} - 256",
+            "mov al, {paint}",
+            "rep stosb",
+            top = out(reg) top,
+            painted = const PAINTED,
+            paint = const PAINT,
+            out("rdi") _,
+            out("rcx") _,
+            out("al") _,
+        );
+    }
+    call();
+    let mut left = 0;
+    while left < PAINTED && unsafe { ((top - PAINTED + left) as *const u8).read_volatile() } == PAINT {
+        left += 1;
+    }
+    PAINTED - left
+}
+
+fn rows(n: usize) -> (Vec<i32>, Vec<i32>) {
+    let row = |gap: fn(i32) -> i32| {
+        let mut at = 0;
+        (0..n as i32).map(|i| { at += 1 + gap(i); at }).collect()
+    };
+    (row(|i| i * 7 % 3), row(|i| i * 5 % 3))
+}
+
+/// In a thread of its own, so that the stack is known to be large enough.
+fn in_thread(test: fn()) {
+    std::thread::Builder::new().stack_size(4 * PAINTED).spawn(test).unwrap().join().unwrap();
+}
+
+#[test]
+fn best_takes_less_than_4096_bytes() {
+    in_thread(|| {
+        for n in [1, 2, 64, 512, 2047, 2048] {
+            let (a, b) = rows(n);
+            let mut ladder = [0; 24];
+            let bytes = taken(|| {
+                black_box(obrastyn::best(black_box(&a), black_box(&b), &mut ladder));
+            });
+            println!("best, {n} pairs: {bytes} bytes");
+            assert!(bytes < 4096);
+        }
+    });
+}
+
+#[test]
+fn what_a_painted_stack_shows() {
+    in_thread(|| {
+        #[inline(never)]
+        fn deep() {
+            black_box([1u8; 10_000]);
+        }
+        let bytes = taken(|| deep());
+        assert!((10_000..11_000).contains(&bytes), "{bytes}");
+    });
+}
