@@ -1,6 +1,6 @@
 -- THE LAWS OF THE HALVING: its best is the best (003, sections 3 and 4), at most half the number of pairs (lemma 2), its count is fixed by its
 -- ladder and at most 12 for each pair.
-use mathlib.Core.Path.{_≡_, refl, sym, _∙_}
+use mathlib.Core.Path.{_≡_, refl, sym}
 use mathlib.Core.Bool.{true, false}
 use mathlib.Core.List.{List, [], _∷_}
 use Prim.Native.Nat.{ℕ, _+_, _-_, _*_, _≤_, _<_}

@@ -1,5 +1,5 @@
 -- A level as `climb` works it out, over plain lists and the ladder l.
-use mathlib.Core.Path.{_≡_, refl, sym, ap, _∙_}
+use mathlib.Core.Path.{_≡_, refl, ap, _∙_}
 use mathlib.Core.List.{List, [], _∷_, _++_}
 use Prim.Native.Nat.{ℕ, suc, _+_, _-_, _*_, _≤_, _<_}
 use native.Mathlib.Omega.{arith}
@@ -9,7 +9,7 @@ use lib.Seq.{take-all, drop-at, drop-drop, length-take-le}
 use lib.IntN.{ℤ}
 use Rattle.whole.proofs.Arith.{up, down, arithℤ}
 use Rattle.wiring.specs.Fit.{evens, half}
-use Rattle.best.specs.Halving.{Taken, taken, fromHalf, Halving, halving}
+use Rattle.best.specs.Halving.{taken, fromHalf, Halving, halving}
 use Rattle.best.specs.Work.{levelEntries, Choosable, IsLevel, Chosen, lowestLevel, Climbable, Halved, Climbed}
 use Rattle.best.specs.declared.level.Level.{Level}
 use Rattle.best.proofs.Levels.{one-pair, more-pairs, more-levels}

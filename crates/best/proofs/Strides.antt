@@ -1,5 +1,5 @@
 -- THE LAWS OF ENTRIES AT A STRIDE: which entries the even half has, that they never fall, and that a trial's range is read from the columns.
-use mathlib.Core.Path.{_≡_, sym, ap, _∙_, fun-ext}
+use mathlib.Core.Path.{_≡_, sym, _∙_, fun-ext}
 use mathlib.Core.List.{List}
 use Prim.Native.Nat.{ℕ, _+_, _-_, _*_, _≤_, _<_, _^_}
 use native.Mathlib.Nat.{zero-add, one-mul, mul-add, mul-assoc, mul-left-comm, mul-le-mul, mul-le-mul-left, mul-le-mul-right, le-mul-of-pos-right}
@@ -7,13 +7,14 @@ use native.Mathlib.Omega.{arith}
 use lib.ListN.{length}
 use lib.IntN.{ℤ, pos, negℤ, _+ℤ_, _-ℤ_, natAbs}
 use lib.Signed.{mag}
-use Rattle.whole.specs.Pick.{largestAt, smallestAt}
-use Rattle.whole.proofs.Arith.{up, down, arithℤ, dif, sum, neg}
+use Rattle.whole.specs.Pick.{largestAt, smallestAt, largest, smallest}
+use Rattle.whole.proofs.Arith.{up, down, arithℤ, dif, sum}
 use Rattle.whole.proofs.Machine.{abs-sum, abs-dif, fits32}
 use Rattle.whole.proofs.Extremes.{largest-further, smallest-further}
 use Rattle.wiring.specs.Wiring.{pad}
 use Rattle.wiring.specs.Fit.{leanOf, Rising, Steady, lowEnd, highEnd, evens, half}
 use Rattle.wiring.proofs.Rule.{lean-steady}
+use Rattle.jumper.specs.Limits.{maxPairs}
 use Rattle.jumper.specs.Rows.{AcceptedRows}
 use Rattle.jumper.specs.Span.{rangeOf}
 use Rattle.jumper.proofs.Accepted.{near}
@@ -45,12 +46,12 @@ even-strided {a} {b} {m} {p} more s =
     }
 
 -- where there is more than one entry, the stride is no large number
-pub step-small : {a b : List ℤ} {m first step lower : ℕ} → 1 < m → Strided a b m first step lower → step < 2048
-step-small {a} {b} {m} {first} {step} {lower} more s = omega (arith, s .inside, s .rows .few, le-mul-of-pos-right {m = m - 1} (step) (omega arith))
+pub step-small : {a b : List ℤ} {m first step lower : ℕ} → 1 < m → Strided a b m first step lower → step < maxPairs
+step-small {a} {b} {m} {first} {step} {lower} more s = omega (arith, s .inside, s .rows .few, le-mul-of-pos-right {m = m - 1} step (omega arith))
 
 -- the pad of an entry is in its row
 pub inside-row : {a b : List ℤ} {m first step lower : ℕ} → Strided a b m first step lower → (j : ℕ) → j < m → first + step * j < length a
-inside-row {a} {b} {m} {first} {step} {lower} s j h = omega (arith, s .inside, mul-le-mul-left {m = j} {n = m - 1} (step) (omega arith))
+inside-row {a} {b} {m} {first} {step} {lower} s j h = omega (arith, s .inside, mul-le-mul-left {m = j} {n = m - 1} step (omega arith))
 
 -- they never fall
 steady : {n : ℕ} (a : List ℤ) → Rising n (pad a) → (m first step lower : ℕ) → lower ≤ step → ((j : ℕ) → j < m → first + step * j < n) → Steady m (entries a first step lower)
@@ -60,10 +61,10 @@ steady {n} a r m first step lower l inside i j h g =
     let e : i + (j - i) ≡ j = omega arith in
     omega (
       arithℤ,
-      lean-steady r k k' (omega (arith, mul-le-mul-left {m = i} {n = j} (step) h)) (inside j g),
+      lean-steady r k k' (omega (arith, mul-le-mul-left {m = i} {n = j} step h)) (inside j g),
       mul-le-mul-right {m = lower} {n = step} (j - i) l,
-      rw e at (mul-add (step) i (j - i)),
-      rw e at (mul-add (lower) i (j - i)),
+      rw e at (mul-add step i (j - i)),
+      rw e at (mul-add lower i (j - i)),
       dif (pad a k) (pos k),
       dif (pad a k') (pos k'),
       dif (pad a k) (pos (lower * i)),
@@ -92,76 +93,70 @@ readable {a} {b} {m} {s} {first} {step} {lower} t =
     record {
       rows = t .strided .rows;
       few = omega (arith, t .strided .few);
-      inside = omega (arith, t .strided .inside, rw e at (mul-add (step) (m - s - 1) s));
+      inside = omega (arith, t .strided .inside, rw e at (mul-add step (m - s - 1) s));
     }
 
 -- every low end is `lower` s further on than what is read for it, every high end as much less
 module _ (a b : List ℤ) (s first step lower : ℕ) where
-  next : (i : ℕ) → first + step * (i + s) ≡ first + step * i + step * s
-  next i = omega (arith, mul-add (step) i s)
+  abbrev x : ℕ → ℤ
+  x = entries a first step lower
 
-  low-is : (i : ℕ) → lowEnd (entries a first step lower) (entries b first step lower) s i ≡ lowRead a b first step (step * s) i +ℤ pos (lower * s)
+  abbrev y : ℕ → ℤ
+  y = entries b first step lower
+
+  abbrev lows : ℕ → ℤ
+  lows = lowRead a b first step (step * s)
+
+  abbrev highs : ℕ → ℤ
+  highs = highRead a b first step (step * s)
+
+  next : (i : ℕ) → first + step * (i + s) ≡ first + step * i + step * s
+  next i = omega (arith, mul-add step i s)
+
+  low-is : (i : ℕ) → lowEnd x y s i ≡ lows i +ℤ pos (lower * s)
   low-is i =
       rw (next i)
-      (let x = pad a (first + step * i) in
-      let y = pad b (first + step * i + step * s) in
-      omega (
-        arithℤ,
-        mul-add (lower) i s,
-        dif (x -ℤ pos (lower * i)) (y -ℤ pos (lower * (i + s))),
-        dif x (pos (lower * i)),
-        dif y (pos (lower * (i + s))),
-        sum (x -ℤ y) (pos (lower * s)),
-        dif x y,
-      ))
+      (let p = pad a (first + step * i) in
+      let q = pad b (first + step * i + step * s) in
+      let u = pos (lower * i) in
+      let v = pos (lower * (i + s)) in
+      omega (arithℤ, mul-add lower i s, dif (p -ℤ u) (q -ℤ v), dif p u, dif q v, sum (p -ℤ q) (pos (lower * s)), dif p q))
 
-  high-is : (i : ℕ) → highEnd (entries a first step lower) (entries b first step lower) s i ≡ highRead a b first step (step * s) i -ℤ pos (lower * s)
+  high-is : (i : ℕ) → highEnd x y s i ≡ highs i -ℤ pos (lower * s)
   high-is i =
       rw (next i)
-      (let x = pad a (first + step * i + step * s) in
-      let y = pad b (first + step * i) in
-      omega (
-        arithℤ,
-        mul-add (lower) i s,
-        dif (x -ℤ pos (lower * (i + s))) (y -ℤ pos (lower * i)),
-        dif x (pos (lower * (i + s))),
-        dif y (pos (lower * i)),
-        dif (x -ℤ y) (pos (lower * s)),
-        dif x y,
-      ))
+      (let p = pad a (first + step * i + step * s) in
+      let q = pad b (first + step * i) in
+      let u = pos (lower * (i + s)) in
+      let v = pos (lower * i) in
+      omega (arithℤ, mul-add lower i s, dif (p -ℤ u) (q -ℤ v), dif p u, dif q v, dif (p -ℤ q) (pos (lower * s)), dif p q))
 
   -- so they are set by the same pads
-  low-from : (m : ℕ) → readOf a b first step (step * s) (m - s - 1) .low +ℤ pos (lower * s) ≡ rangeOf m (entries a first step lower) (entries b first step lower) s .low
-  low-from m =
-      rw (largest-further (lowEnd (entries a first step lower) (entries b first step lower) s) (lowRead a b first step (step * s)) (pos (lower * s)) low-is (m - s - 1))
-      (sym (low-is (largestAt (lowRead a b first step (step * s)) (m - s - 1))))
+  low-from : (m : ℕ) → largest lows (m - s - 1) +ℤ pos (lower * s) ≡ rangeOf m x y s .low
+  low-from m = rw (largest-further (lowEnd x y s) lows (pos (lower * s)) low-is (m - s - 1)) (sym (low-is (largestAt lows (m - s - 1))))
 
-  high-from : (m : ℕ) → readOf a b first step (step * s) (m - s - 1) .high -ℤ pos (lower * s) ≡ rangeOf m (entries a first step lower) (entries b first step lower) s .high
-  high-from m =
-      rw (smallest-further (highEnd (entries a first step lower) (entries b first step lower) s) (highRead a b first step (step * s)) (negℤ (pos (lower * s))) high-is (m - s - 1))
-      (sym (high-is (smallestAt (highRead a b first step (step * s)) (m - s - 1))))
+  high-from : (m : ℕ) → smallest highs (m - s - 1) -ℤ pos (lower * s) ≡ rangeOf m x y s .high
+  high-from m = rw (smallest-further (highEnd x y s) highs (negℤ (pos (lower * s))) high-is (m - s - 1)) (sym (high-is (smallestAt highs (m - s - 1))))
 
-  module _ (m : ℕ) (p : Triable a b m s first step lower) (r : Trial) (e : r ≡ readOf a b first step (step * s) (m - s - 1)) where
-    -- the shift is no large number
-    pub shift-small : lower * s < 2048
-    shift-small = omega (arith, p .strided .inside, p .strided .rows .few, mul-le-mul {n₁ = lower} {m₁ = s} {n₂ = step} {m₂ = m - 1} (p .strided .lowered) (omega (arith, p .inside)))
+  -- as a trial works them out from what is read
+  module _ (m : ℕ) (t : Triable a b m s first step lower) (r : Trial) (e : r ≡ readOf a b first step (step * s) (m - s - 1)) where
+    pub shift-small : lower * s < maxPairs
+    shift-small = omega (arith, t .strided .inside, t .strided .rows .few, mul-le-mul {n₁ = lower} {m₁ = s} {n₂ = step} {m₂ = m - 1} (t .strided .lowered) (omega (arith, t .inside)))
 
     near-difference : (i j : ℕ) → natAbs (pad a i -ℤ pad b j) ≤ 2000000
-    near-difference i j = omega (arith, abs-dif (pad a i) (pad b j), near a (p .strided .rows .bottom) i, near b (p .strided .rows .top) j)
+    near-difference i j = omega (arith, abs-dif (pad a i) (pad b j), near a (t .strided .rows .bottom) i, near b (t .strided .rows .top) j)
 
     pub low-fits : mag (r .low +ℤ pos (lower * s)) < 2 ^ 31
     low-fits =
-        let k = first + step * largestAt (lowRead a b first step (step * s)) (m - s - 1) in
+        let k = first + step * largestAt lows (m - s - 1) in
         let d = pad a k -ℤ pad b (k + step * s) in
         rw e (fits32 (d +ℤ pos (lower * s)) (omega (arith, abs-sum d (pos (lower * s)), near-difference k (k + step * s), shift-small)))
 
     pub high-fits : mag (r .high -ℤ pos (lower * s)) < 2 ^ 31
     high-fits =
-        let k = first + step * smallestAt (highRead a b first step (step * s)) (m - s - 1) in
+        let k = first + step * smallestAt highs (m - s - 1) in
         let d = pad a (k + step * s) -ℤ pad b k in
         rw e (fits32 (d -ℤ pos (lower * s)) (omega (arith, abs-dif d (pos (lower * s)), near-difference (k + step * s) k, shift-small)))
 
-    pub trial-read : _≡_ {A = Trial} (record { low = r .low +ℤ pos (lower * s); high = r .high -ℤ pos (lower * s); count = r .count }) (trialOf m (entries a first step lower) (entries b first step lower) s)
-    trial-read =
-        let n : 2 * (m - s - 1 + 1) ≡ 2 * (m - s) = omega (arith, p .inside) in
-        rw e (rw (low-from m, high-from m, n))
+    pub trial-read : _≡_ {A = Trial} (record { low = r .low +ℤ pos (lower * s); high = r .high -ℤ pos (lower * s); count = r .count }) (trialOf m x y s)
+    trial-read = let n : 2 * (m - s - 1 + 1) ≡ 2 * (m - s) = omega (arith, t .inside) in rw e (rw (low-from m, high-from m, n))

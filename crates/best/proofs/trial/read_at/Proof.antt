@@ -1,6 +1,4 @@
-use mathlib.Core.Path.{sym, _∙_}
 use borrow.Author.Needs.{needs}
-use Rattle.best.specs.Work.{Readable, readOf}
 use Rattle.best.proofs.trial.read_at.Statement.{statement}
 use Rattle.best.proofs.trial.read_at.Tie as tie
 
