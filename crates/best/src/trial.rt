@@ -5,7 +5,7 @@ ghost use Rattle.wiring.specs.Wiring.{pad};
 ghost use Rattle.best.specs.Work.{rangeRead, Near, Readable, readOf, Triable, trialOf, entries};
 use jumper::range::OffsetRange;
 
-// The ends of the range stand apart: written one by one and read as one range, they would be waited for.
+// What a trial came to. The ends are two numbers here and not one range: what is written in two parts and at once copied whole is waited for.
 pub(crate) struct Trial {
     pub(crate) low: i32,
     pub(crate) high: i32,
@@ -31,8 +31,9 @@ fn difference(a: &[i32], i: usize, b: &[i32], j: usize) -> i32
     a[i] - b[j]
 }
 
-// The differences of columns `gap` pads apart: from pad `first` on, and `last` times a step further. Two are read for the first pad and two more in
-// each round, so i, which counts the rounds that were made, tells the count. A second counter of 64 bits would halve the width at which the loop runs.
+// The differences of columns `gap` pads apart, from pad `first` on and from `last` pads more, a step from one to the next. Two are read for the first pad
+// and two more in each round, so i, which counts the rounds that were made, tells the count. A second counter of 64 bits would halve the width at which
+// the loop runs.
 fn read(a: &[i32], b: &[i32], first: usize, step: usize, gap: usize, last: usize) -> Trial
     requires { ⌜ Readable (now a) (now b) first step gap last ⌝ }
     ensures { λ r. ⌜ r ≡ readOf (now (a .entry)) (now (b .entry)) first step gap last ⌝ }
@@ -50,8 +51,8 @@ fn read(a: &[i32], b: &[i32], first: usize, step: usize, gap: usize, last: usize
     Trial { low, high, count }
 }
 
-// Half of all differences are read at step 1 and a quarter at step 2. There the step is a number that the compiler knows, so that it has each of
-// these loops apart and makes vector code of them.
+// Half of all differences are read at step 1 and a quarter at step 2. There the step is a number that the compiler knows: it lays out a loop for each,
+// and makes vector code of it.
 fn read_at(a: &[i32], b: &[i32], first: usize, step: usize, gap: usize, last: usize) -> Trial
     requires { ⌜ Readable (now a) (now b) first step gap last ⌝ }
     ensures { λ r. ⌜ r ≡ readOf (now (a .entry)) (now (b .entry)) first step gap last ⌝ }

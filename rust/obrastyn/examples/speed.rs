@@ -1,55 +1,10 @@
 //! Speed, as ratios in one run: each proved call against the same work in plain Rust at -O3 (reference::baseline).
 //! `cargo run --release --offline --example speed` prints a table; docs/SPEED.md has the figures of one run.
 //! A figure is the median of many rounds, the two sides taking turns. Buffers are lent as they are, not cleared between rounds.
+mod race;
+use race::{race, row, rows};
 use reference::baseline;
 use std::hint::black_box;
-use std::time::Instant;
-
-/// Seconds a call, the median over rounds in which both sides take turns.
-fn race<A, B>(mut ours: impl FnMut() -> A, mut plain: impl FnMut() -> B) -> (f64, f64) {
-    let began = Instant::now();
-    black_box(plain());
-    let once = began.elapsed().as_secs_f64().max(1e-8);
-    let inner = (2e-4 / once).ceil() as usize;
-    let rounds = if once > 1e-2 { 9 } else { 61 };
-    let (mut x, mut y) = (Vec::new(), Vec::new());
-    for _ in 0..rounds {
-        let began = Instant::now();
-        for _ in 0..inner {
-            black_box(ours());
-        }
-        x.push(began.elapsed().as_secs_f64() / inner as f64);
-        let began = Instant::now();
-        for _ in 0..inner {
-            black_box(plain());
-        }
-        y.push(began.elapsed().as_secs_f64() / inner as f64);
-    }
-    x.sort_by(f64::total_cmp);
-    y.sort_by(f64::total_cmp);
-    (x[rounds / 2], y[rounds / 2])
-}
-
-fn row(name: &str, t: (f64, f64)) {
-    println!("{name:44} {:12.3} {:12.3} {:7.2}", t.0 * 1e6, t.1 * 1e6, t.0 / t.1);
-}
-
-/// Tight rows: pads close together, the top row close to the bottom row. Loose rows: wide gaps, all different.
-fn rows(n: usize, tight: bool, seed: u64) -> (Vec<i32>, Vec<i32>) {
-    let mut state = seed;
-    let mut next = |most: u64| {
-        state = state.wrapping_mul(6364136223846793005).wrapping_add(1442695040888963407);
-        ((state >> 33) % most) as i32
-    };
-    let gap = if tight { 3 } else { (65535 / n as u64).max(2) - 1 };
-    let mut row = |_: usize| {
-        let mut at = -1;
-        (0..n).map(|_| { at += 1 + next(gap); at }).collect::<Vec<i32>>()
-    };
-    let a = row(0);
-    let b = row(1);
-    (a, b)
-}
 
 fn rule(n: usize, tight: bool) {
     let kind = if tight { "tight" } else { "loose" };
@@ -63,6 +18,7 @@ fn rule(n: usize, tight: bool) {
     row(&format!("range, {n} pairs, {kind}, at 1"), race(|| obrastyn::range(black_box(x), black_box(y), 1), || baseline::range(black_box(x), black_box(y), 1)));
     let (mut ours, mut plain) = ([0usize; 24], [0usize; 24]);
     row(&format!("best, {n} pairs, {kind}"), race(|| obrastyn::best(black_box(x), black_box(y), &mut ours), || baseline::best_with_ladder(black_box(x), black_box(y), &mut plain)));
+    row(&format!("best, {n} pairs, {kind}, against copies"), race(|| obrastyn::best(black_box(x), black_box(y), &mut ours), || baseline::best_by_copies(black_box(x), black_box(y), &mut plain)));
 }
 
 /// Rows that need about `s` tracks at offset 0, drawn and checked at exactly `s`.

@@ -20,6 +20,12 @@ fn same_on(random: &mut Random, a: &[i32], b: &[i32], s: usize, d: i32) {
         halving::best_with_ladder(a, b, &mut theirs)
     );
     assert_eq!(ours, theirs);
+    let mut copies = vec![9_999; room];
+    assert_eq!(
+        baseline::best_by_copies(a, b, &mut copies),
+        halving::best_with_ladder(a, b, &mut theirs)
+    );
+    assert_eq!(copies, theirs);
 
     let wire = random.below(a.len() + 2);
     let room = (s.min(3_000) + 3).saturating_sub(random.below(5));

@@ -1,0 +1,70 @@
+//! Each call now and at an earlier revision, by turns, in one run. `rust/before REVISION` builds what is needed and runs this.
+mod race;
+use obrastyn::{Line, Numbers, Order};
+use race::{race, row, rows};
+use std::hint::black_box;
+
+extern "C" {
+    fn before_obrastyn_fit(a: *const i32, an: usize, b: *const i32, bn: usize, s: usize, d: i32) -> Numbers;
+    fn before_obrastyn_least(a: *const i32, an: usize, b: *const i32, bn: usize, d: i32) -> Numbers;
+    fn before_obrastyn_range(a: *const i32, an: usize, b: *const i32, bn: usize, s: usize) -> Numbers;
+    fn before_obrastyn_best(a: *const i32, an: usize, b: *const i32, bn: usize, ladder: *mut usize, room: usize) -> Numbers;
+    fn before_obrastyn_draw_all(a: *const i32, an: usize, b: *const i32, bn: usize, s: usize, d: i32, out: *mut i32, room: usize) -> Numbers;
+    fn before_obrastyn_check(a: *const i32, an: usize, b: *const i32, bn: usize, s: usize, d: i32, table: *const i32, room: usize) -> Numbers;
+    fn before_answer_all(table: *mut Line, lines: usize, a: *const i32, an: usize, b: *const i32, bn: usize) -> u8;
+}
+
+fn rule(n: usize, tight: bool) {
+    let kind = if tight { "tight" } else { "loose" };
+    let (a, b) = rows(n, tight, 7 + n as u64);
+    let s = obrastyn::least(&a, &b, 0).separation;
+    let (x, y) = (&a[..], &b[..]);
+    let (p, q) = (a.as_ptr(), b.as_ptr());
+    let (mut now, mut then) = ([0usize; 24], [0usize; 24]);
+    row(&format!("fit, {n} pairs, {kind}"), race(|| obrastyn::fit(black_box(x), black_box(y), s, 0), || unsafe { before_obrastyn_fit(black_box(p), n, black_box(q), n, s, 0) }));
+    row(&format!("least, {n} pairs, {kind}"), race(|| obrastyn::least(black_box(x), black_box(y), 0), || unsafe { before_obrastyn_least(black_box(p), n, black_box(q), n, 0) }));
+    row(&format!("range, {n} pairs, {kind}"), race(|| obrastyn::range(black_box(x), black_box(y), s), || unsafe { before_obrastyn_range(black_box(p), n, black_box(q), n, s) }));
+    row(&format!("best, {n} pairs, {kind}"), race(|| obrastyn::best(black_box(x), black_box(y), &mut now), || unsafe { before_obrastyn_best(black_box(p), n, black_box(q), n, then.as_mut_ptr(), 24) }));
+}
+
+fn route(n: usize, s: usize) {
+    let a: Vec<i32> = (0..n as i32).map(|i| 3 * i).collect();
+    let b: Vec<i32> = a.iter().map(|x| x + 2 * s as i32 - 7).collect();
+    let (x, y) = (&a[..], &b[..]);
+    let (p, q) = (a.as_ptr(), b.as_ptr());
+    let mut now = vec![0i32; n * (s + 1)];
+    let mut then = now.clone();
+    let room = now.len();
+    assert_eq!(obrastyn::draw_all(x, y, s, 0, &mut now).refusal, 0);
+    row(&format!("draw all, {n} pairs by {s} tracks"), race(|| obrastyn::draw_all(black_box(x), black_box(y), s, 0, &mut now), || unsafe { before_obrastyn_draw_all(black_box(p), n, black_box(q), n, s, 0, then.as_mut_ptr(), room) }));
+    row(&format!("check, {n} pairs by {s} tracks"), race(|| obrastyn::check(black_box(x), black_box(y), s, 0, &now), || unsafe { before_obrastyn_check(black_box(p), n, black_box(q), n, s, 0, then.as_ptr(), room) }));
+}
+
+fn form(tight: bool) {
+    let kind = if tight { "tight" } else { "loose" };
+    let (mut a, mut b) = (Vec::new(), Vec::new());
+    for line in 0..64 {
+        let (x, y) = rows(2048, tight, 99 + line);
+        a.extend(x);
+        b.extend(y);
+    }
+    let order = |k: usize| Order { bottom: 2048 * k, top: 2048 * k, pairs: 2048, separation: obrastyn::LEAST, offset: obrastyn::BEST };
+    let mut now: Vec<Line> = (0..64).map(|k| Line { order: order(k), answer: Default::default() }).collect();
+    let mut then = now.clone();
+    let (x, y, n) = (&a[..], &b[..], a.len());
+    let (p, q) = (a.as_ptr(), b.as_ptr());
+    row(&format!("form, 64 lines of 2048 pairs, {kind}"), race(|| obrastyn::answer_all(black_box(&mut now), x, y), || unsafe { before_answer_all(black_box(then.as_mut_ptr()), 64, p, n, q, n) }));
+}
+
+fn main() {
+    println!("{:44} {:>12} {:>12} {:>7}", "call", "now, us", "before, us", "ratio");
+    for n in [64, 512, 2048] {
+        for tight in [true, false] {
+            rule(n, tight);
+        }
+    }
+    form(true);
+    form(false);
+    route(512, 256);
+    route(2048, 1024);
+}
