@@ -84,11 +84,18 @@ pub record Choosable (most : ℕ) (a b : List ℤ) (p m h c : ℕ) : Type 0 wher
   pub within : 4 * h ≤ m + 1
   pub cheap : c ≤ most
 
+-- a level's range, and the level that a trial makes
+abbrev pub rangeKept : Level → OffsetRange
+rangeKept l = record { low = l .low; high = l .high }
+
+abbrev pub levelAt : ℕ → Trial → ℕ → Level
+levelAt best t count = record { best = best; low = t .low; high = t .high; count = count }
+
 -- what a level hands up: its best and count, and the range at its best, unless that was not read: then an empty range stands for it
 pub record IsLevel (m : ℕ) (x y : ℕ → ℤ) (t : Taken) (r : Level) : Type 0 where
   pub best : r .best ≡ t .best
   pub count : r .count ≡ t .count
-  pub kept : r .range .low ≤ℤ r .range .high → r .range ≡ rangeOf m x y (t .best)
+  pub kept : r .low ≤ℤ r .high → rangeKept r ≡ rangeOf m x y (t .best)
 
 abbrev pub EvenTried : (m : ℕ) (x y : ℕ → ℤ) (h c : ℕ) (r : Level) → Type 0
 EvenTried m x y h c r = IsLevel m x y (fromEven m x y h c) r
@@ -98,13 +105,13 @@ Chosen m x y h c r = IsLevel m x y (fromHalf m x y h c) r
 
 -- the level of one pair
 abbrev pub lowestLevel : Level
-lowestLevel = record { best = 0; range = record { low = pos 1; high = pos 0 }; count = 0 }
+lowestLevel = record { best = 0; low = pos 1; high = pos 0; count = 0 }
 
 -- the range of the whole rows' level, kept or not yet read
 pub record Keeps (a b : List ℤ) (l : Level) : Type 0 where
   pub rows : AcceptedRows a b
   pub inside : l .best < length a
-  pub kept : l .range .low ≤ℤ l .range .high → l .range ≡ rangeOf (length a) (leanOf a) (leanOf b) (l .best)
+  pub kept : l .low ≤ℤ l .high → rangeKept l ≡ rangeOf (length a) (leanOf a) (leanOf b) (l .best)
 
 pub record Climbable (a b : List ℤ) (p m : ℕ) (ladder : List ℕ) : Type 0 where
   pub strided : Strided a b m 0 p p

@@ -5,15 +5,28 @@ ghost use Prim.Native.Nat.{_≤_};
 ghost use lib.ListN.{length, drop};
 ghost use Rattle.jumper.specs.Limits.{maxPairs};
 ghost use Rattle.best.specs.Halving.{levels};
-ghost use Rattle.best.specs.Work.{Choosable, EvenTried, Chosen, lowestLevel, levelEntries};
+ghost use Rattle.best.specs.Work.{Choosable, EvenTried, Chosen, lowestLevel, rangeKept, levelAt, levelEntries};
+use crate::trial::Trial;
 use crate::trial::try_at;
 use jumper::range::OffsetRange;
 
-// The best number, how many differences were read for it, and the range there, which is empty if it was not read.
+// The best number, how many differences were read for it, and the ends of the range there (two numbers, as in `Trial`), which is empty if it was not read.
 pub(crate) struct Level {
     pub(crate) best: usize,
-    pub(crate) range: OffsetRange,
+    pub(crate) low: i32,
+    pub(crate) high: i32,
     pub(crate) count: usize,
+}
+
+impl Level {
+    pub(crate) fn range(self) -> OffsetRange
+        ensures { λ r. ⌜ r ≡ rangeKept self ⌝ }
+    {
+        OffsetRange {
+            low: self.low,
+            high: self.high,
+        }
+    }
 }
 
 // One pair: its range is not read.
@@ -22,8 +35,21 @@ pub(crate) fn lowest() -> Level
 {
     Level {
         best: 0,
-        range: OffsetRange { low: 1, high: 0 },
+        low: 1,
+        high: 0,
         count: 0,
+    }
+}
+
+// At a number whose range was read.
+fn level_at(best: usize, tried: Trial, count: usize) -> Level
+    ensures { λ r. ⌜ r ≡ levelAt best tried count ⌝ }
+{
+    Level {
+        best,
+        low: tried.low,
+        high: tried.high,
+        count,
     }
 }
 
@@ -37,14 +63,9 @@ fn try_even(a: &[i32], b: &[i32], step: usize, m: usize, h: usize, read: usize) 
     let range = tried.range();
     let count = read + tried.count;
     if range.is_empty() {
-        let best = even + 1;
-        return Level { best, range, count };
+        return level_at(even + 1, tried, count);
     }
-    Level {
-        best: even,
-        range,
-        count,
-    }
+    level_at(even, tried, count)
 }
 
 // 2h - 1 if h is not 0, then 2h.
@@ -62,11 +83,7 @@ pub(crate) fn choose(a: &[i32], b: &[i32], step: usize, m: usize, h: usize, read
     if range.is_empty() {
         return try_even(a, b, step, m, h, count);
     }
-    Level {
-        best: odd,
-        range,
-        count,
-    }
+    level_at(odd, tried, count)
 }
 
 // A rung of the ladder: a level's size and its best number.

@@ -88,7 +88,7 @@ fn kept_or_read(a: &[i32], b: &[i32], level: Level) -> OffsetRange
     requires { ⌜ Keeps (now a) (now b) level ⌝ }
     ensures { λ r. ⌜ r ≡ rangeOf (length (now (a .entry))) (leanOf (now (a .entry))) (leanOf (now (b .entry))) (level .best) ⌝ }
 {
-    let range = level.range;
+    let range = level.range();
     if range.is_empty() {
         let tried = try_at(a, b, a.len(), level.best, 0, 1, 1);
         return tried.range();

@@ -55,14 +55,18 @@ returns-2 c =
     past-odd (a .m) (levelEntries (a .a .now) (a .step)) (levelEntries (a .b .now) (a .step)) (a .h) (a .read)
     r (g .range .result) (g .range .ensures) _ (pos-of-ne-zero (k .before .if1 .left)) (k .try-at .ensures) (sym (j .before .is-empty .ensures .0) ∙ j .if2 .taken) (c .try-even2 .ensures)
 
+level-at-requires : tie.Need-level-at-requires
+level-at-requires c κs = search needs
+
 returns-3 : tie.Need-returns-3
 returns-3 c =
-    let g = c .before .before .before in
+    let i = c .before in
+    let g = i .before .before .before in
     let k = g .before in
-    let r = k .try-at .result in
     let a = k .before .before .args in
     open-odd (a .m) (levelEntries (a .a .now) (a .step)) (levelEntries (a .b .now) (a .step)) (a .h) (a .read)
-    r (g .range .result) (g .range .ensures) (pos-of-ne-zero (k .before .if1 .left)) (k .try-at .ensures) (sym (c .before .is-empty .ensures .0) ∙ c .if2 .left)
+    (k .try-at .result) (g .range .result) (g .range .ensures) _ (pos-of-ne-zero (k .before .if1 .left)) (k .try-at .ensures)
+    (sym (i .before .is-empty .ensures .0) ∙ i .if2 .left) (c .level-at .ensures)
 
 pub choose-spec : {M : Type 1} → statement M
 choose-spec =
@@ -78,4 +82,5 @@ choose-spec =
     is-empty-requires
     try-even-requires-2
     returns-2
+    level-at-requires
     returns-3)

@@ -25,26 +25,44 @@ add-count c =
 is-empty-requires : tie.Need-is-empty-requires
 is-empty-requires c κs = search needs
 
-add-best : tie.Need-add-best
-add-best c = search needs
+add-level-at : tie.Need-add-level-at
+add-level-at c = search needs
+
+level-at-requires : tie.Need-level-at-requires
+level-at-requires c κs = search needs
 
 returns : tie.Need-returns
 returns c =
-    let g = c .before .before .before in
+    let i = c .before in
+    let g = i .before .before .before in
     let k = g .before in
-    let r = k .try-at .result in
     let a = k .before .args in
     empty-even (a .m) (levelEntries (a .a .now) (a .step)) (levelEntries (a .b .now) (a .step)) (a .h) (a .read)
-    r (g .range .result) (g .range .ensures) (k .try-at .ensures) (sym (c .before .is-empty .ensures .0) ∙ c .if1 .taken)
+    (k .try-at .result) (g .range .result) (g .range .ensures) _ (k .try-at .ensures) (sym (i .before .is-empty .ensures .0) ∙ i .if1 .taken) (c .level-at .ensures)
+
+level-at-requires-2 : tie.Need-level-at-requires-2
+level-at-requires-2 c κs = search needs
 
 returns-2 : tie.Need-returns-2
 returns-2 c =
-    let g = c .before .before .before in
+    let i = c .before in
+    let g = i .before .before .before in
     let k = g .before in
-    let r = k .try-at .result in
     let a = k .before .args in
     open-even (a .m) (levelEntries (a .a .now) (a .step)) (levelEntries (a .b .now) (a .step)) (a .h) (a .read)
-    r (g .range .result) (g .range .ensures) (k .try-at .ensures) (sym (c .before .is-empty .ensures .0) ∙ c .if1 .left)
+    (k .try-at .result) (g .range .result) (g .range .ensures) _ (k .try-at .ensures) (sym (i .before .is-empty .ensures .0) ∙ i .if1 .left) (c .level-at2 .ensures)
 
 pub try-even-spec : {M : Type 1} → statement M
-try-even-spec = tie.close (tie.spec mul-even try-at-requires range-requires add-count is-empty-requires add-best returns returns-2)
+try-even-spec =
+    tie.close
+    (tie.spec
+    mul-even
+    try-at-requires
+    range-requires
+    add-count
+    is-empty-requires
+    add-level-at
+    level-at-requires
+    returns
+    level-at-requires-2
+    returns-2)

@@ -7,14 +7,17 @@ use Rattle.best.proofs.Plans.{whole-trial}
 use Rattle.best.proofs.plan.kept_or_read.Statement.{statement}
 use Rattle.best.proofs.plan.kept_or_read.Tie as tie
 
+range-requires : tie.Need-range-requires
+range-requires c κs = search needs
+
 is-empty-requires : tie.Need-is-empty-requires
 is-empty-requires c κs = search needs
 
 try-at-requires : tie.Need-try-at-requires
 try-at-requires c κs = let p = c .before .before .before .pre in record { strided = whole-strided (p .rows); inside = p .inside }
 
-range-requires : tie.Need-range-requires
-range-requires c κs = search needs
+range-requires-2 : tie.Need-range-requires-2
+range-requires-2 c κs = search needs
 
 returns : tie.Need-returns
 returns c =
@@ -24,7 +27,8 @@ returns c =
 
 returns-2 : tie.Need-returns-2
 returns-2 c =
-    kept-range (c .before .before .before .pre) (sym (c .before .is-empty .ensures .0) ∙ c .if1 .left)
+    let g = c .before .before in
+    kept-range (g .range .result) (g .before .pre) (g .range .ensures) (sym (c .before .is-empty .ensures .0) ∙ c .if1 .left)
 
 pub kept-or-read-spec : {M : Type 1} → statement M
-kept-or-read-spec = tie.close (tie.spec is-empty-requires try-at-requires range-requires returns returns-2)
+kept-or-read-spec = tie.close (tie.spec range-requires is-empty-requires try-at-requires range-requires-2 returns returns-2)
