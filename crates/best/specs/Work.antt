@@ -30,7 +30,7 @@ entries a first step lower j = pad a (first + step * j) -ℤ pos (lower * j)
 abbrev pub levelEntries : List ℤ → ℕ → ℕ → ℤ
 levelEntries a p = entries a 0 p p
 
--- m entries that all stand in accepted rows, and of which none is lowered by more than the pads from one to the next: so they never fall
+-- m entries that all stand in accepted rows. From one to the next the lowering grows by no more than the pads between them, so they never fall
 pub record Strided (a b : List ℤ) (m first step lower : ℕ) : Type 0 where
   pub rows : AcceptedRows a b
   pub some : 1 ≤ m
@@ -56,6 +56,7 @@ lowRead a b first step gap i = pad a (first + step * i) -ℤ pad b (first + step
 abbrev pub highRead : (a b : List ℤ) (first step gap : ℕ) → ℕ → ℤ
 highRead a b first step gap i = pad a (first + step * i + gap) -ℤ pad b (first + step * i)
 
+-- all of these, for i from 0 to `last`, stand in accepted rows; and the largest low one, the smallest high one, and how many they are
 pub record Readable (a b : List ℤ) (first step gap last : ℕ) : Type 0 where
   pub rows : AcceptedRows a b
   pub few : last < maxPairs
@@ -113,6 +114,7 @@ pub record Keeps (a b : List ℤ) (l : Level) : Type 0 where
   pub inside : l .best < length a
   pub kept : l .low ≤ℤ l .high → rangeKept l ≡ rangeOf (length a) (leanOf a) (leanOf b) (l .best)
 
+-- a level of stride p, and room for its ladder and those below
 pub record Climbable (a b : List ℤ) (p m : ℕ) (ladder : List ℕ) : Type 0 where
   pub strided : Strided a b m 0 p p
   pub rungs : 2 * levels m ≤ length ladder

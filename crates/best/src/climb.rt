@@ -5,7 +5,7 @@ use crate::level::choose;
 use crate::level::lowest;
 use crate::level::set_rung;
 
-// The best number of a level: m entries that are read in the rows themselves, at a stride. Its even half are the entries at twice the stride. The level's
+// The best number of a level: m entries that are read in the rows themselves, at a stride. Its even half is the level of twice the stride. The level's
 // rung is written in front of `ladder`, those below behind it.
 pub(crate) fn climb(a: &[i32], b: &[i32], step: usize, m: usize, ladder: &mut [usize]) -> Level
     requires { ⌜ Climbable (now a) (now b) step m (now ladder) ⌝ }

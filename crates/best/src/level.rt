@@ -41,7 +41,7 @@ pub(crate) fn lowest() -> Level
     }
 }
 
-// At a number whose range was read.
+// After a trial: the number that is taken, with the trial's range. Where that is the untried next number, the range is empty.
 fn level_at(best: usize, tried: Trial, count: usize) -> Level
     ensures { λ r. ⌜ r ≡ levelAt best tried count ⌝ }
 {

@@ -5,7 +5,8 @@ ghost use Rattle.wiring.specs.Wiring.{pad};
 ghost use Rattle.best.specs.Work.{rangeRead, Near, Readable, readOf, Triable, trialOf, entries};
 use jumper::range::OffsetRange;
 
-// What a trial came to. The ends are two numbers here and not one range: what is written in two parts and at once copied whole is waited for.
+// What a trial came to. The ends are two numbers here and not one range: the processor waits for what is written in two parts and at once
+// copied whole.
 pub(crate) struct Trial {
     pub(crate) low: i32,
     pub(crate) high: i32,
@@ -31,8 +32,8 @@ fn difference(a: &[i32], i: usize, b: &[i32], j: usize) -> i32
     a[i] - b[j]
 }
 
-// The differences of columns `gap` pads apart, from pad `first` on and from `last` pads more, a step from one to the next. Two are read for the first pad
-// and two more in each round, so i, which counts the rounds that were made, tells the count. A second counter of 64 bits would halve the width at which
+// The differences of columns `gap` pads apart, at pad `first` and at `last` more, `step` pads from one to the next. Two are read for the first pad and two
+// more in each round, so i, which counts the rounds that were made, tells the count. A second counter of 64 bits would halve the width at which
 // the loop runs.
 fn read(a: &[i32], b: &[i32], first: usize, step: usize, gap: usize, last: usize) -> Trial
     requires { ⌜ Readable (now a) (now b) first step gap last ⌝ }
@@ -51,7 +52,7 @@ fn read(a: &[i32], b: &[i32], first: usize, step: usize, gap: usize, last: usize
     Trial { low, high, count }
 }
 
-// Half of all differences are read at step 1 and a quarter at step 2. There the step is a number that the compiler knows: it lays out a loop for each,
+// About half of all differences are read at step 1 and a quarter at step 2. There the step is a number that the compiler knows: it lays out a loop for each,
 // and makes vector code of it.
 fn read_at(a: &[i32], b: &[i32], first: usize, step: usize, gap: usize, last: usize) -> Trial
     requires { ⌜ Readable (now a) (now b) first step gap last ⌝ }
@@ -66,8 +67,8 @@ fn read_at(a: &[i32], b: &[i32], first: usize, step: usize, gap: usize, last: us
     read(a, b, first, step, gap, last)
 }
 
-// At s among m entries: entry j of x is a[first + step j] - lower j, and that of y is b's. Each low end is `lower` s further on than the difference that
-// is read for it, and each high end as much less: this is added once.
+// At s among m entries: entry j of x is a[first + step j] - lower j, and that of y is b's. Each low end is `lower` times s further on than the difference
+// that is read for it, and each high end as much less: this is added once.
 pub(crate) fn try_at(
     a: &[i32],
     b: &[i32],

@@ -1,4 +1,5 @@
-//! Each call now and at an earlier revision, by turns, in one run. `rust/before REVISION` builds what is needed and runs this.
+//! The calls now and at an earlier revision, by turns, in one run. `rust/before REVISION` builds what is needed and runs this. Only for revisions whose
+//! exports have the same arguments and records as today's: the linker can't tell.
 mod race;
 use obrastyn::{Line, Numbers, Order};
 use race::{race, row, rows};
@@ -14,6 +15,13 @@ extern "C" {
     fn before_answer_all(table: *mut Line, lines: usize, a: *const i32, an: usize, b: *const i32, bn: usize) -> u8;
 }
 
+/// A change may change an answer: then the two sides did not do the same work.
+fn same(agree: bool) {
+    if !agree {
+        println!("    (the answers differ)");
+    }
+}
+
 fn rule(n: usize, tight: bool) {
     let kind = if tight { "tight" } else { "loose" };
     let (a, b) = rows(n, tight, 7 + n as u64);
@@ -25,6 +33,9 @@ fn rule(n: usize, tight: bool) {
     row(&format!("least, {n} pairs, {kind}"), race(|| obrastyn::least(black_box(x), black_box(y), 0), || unsafe { before_obrastyn_least(black_box(p), n, black_box(q), n, 0) }));
     row(&format!("range, {n} pairs, {kind}"), race(|| obrastyn::range(black_box(x), black_box(y), s), || unsafe { before_obrastyn_range(black_box(p), n, black_box(q), n, s) }));
     row(&format!("best, {n} pairs, {kind}"), race(|| obrastyn::best(black_box(x), black_box(y), &mut now), || unsafe { before_obrastyn_best(black_box(p), n, black_box(q), n, then.as_mut_ptr(), 24) }));
+    same(now == then);
+    same(obrastyn::least(x, y, 0) == unsafe { before_obrastyn_least(p, n, q, n, 0) });
+    same(obrastyn::range(x, y, s) == unsafe { before_obrastyn_range(p, n, q, n, s) });
 }
 
 fn route(n: usize, s: usize) {
@@ -38,6 +49,7 @@ fn route(n: usize, s: usize) {
     assert_eq!(obrastyn::draw_all(x, y, s, 0, &mut now).refusal, 0);
     row(&format!("draw all, {n} pairs by {s} tracks"), race(|| obrastyn::draw_all(black_box(x), black_box(y), s, 0, &mut now), || unsafe { before_obrastyn_draw_all(black_box(p), n, black_box(q), n, s, 0, then.as_mut_ptr(), room) }));
     row(&format!("check, {n} pairs by {s} tracks"), race(|| obrastyn::check(black_box(x), black_box(y), s, 0, &now), || unsafe { before_obrastyn_check(black_box(p), n, black_box(q), n, s, 0, then.as_ptr(), room) }));
+    same(now == then);
 }
 
 fn form(tight: bool) {
@@ -54,6 +66,7 @@ fn form(tight: bool) {
     let (x, y, n) = (&a[..], &b[..], a.len());
     let (p, q) = (a.as_ptr(), b.as_ptr());
     row(&format!("form, 64 lines of 2048 pairs, {kind}"), race(|| obrastyn::answer_all(black_box(&mut now), x, y), || unsafe { before_answer_all(black_box(then.as_mut_ptr()), 64, p, n, q, n) }));
+    same(now == then);
 }
 
 fn main() {

@@ -1,29 +1,32 @@
 //! The planning terminal has a small stack (02, #104). What a call takes of it is measured by painting: all that lies below the caller is filled with one
 //! byte, the call is made, and the lowest place that changed tells how far down it went.
 //!
-//! `cargo test --release --offline --test stack -- --nocapture` prints the figures of docs/SPEED.md.
+//! `cargo test --release --offline --manifest-path rust/Cargo.toml --test stack -- --nocapture` prints the figures of docs/SPEED.md.
+#![cfg(target_arch = "x86_64")]
 use std::arch::asm;
 use std::hint::black_box;
 
 const PAINT: u8 = 0xA5;
 const PAINTED: usize = 1 << 18;
+/// Left alone next to the stack pointer: more than the red zone, in which this function may keep something.
+const SPARED: usize = 256;
 
 /// How many bytes of stack `call` takes, its return address among them.
 #[inline(never)]
 fn taken(call: impl FnOnce()) -> usize {
     let top: usize;
-    // SAFETY: the stack of the thread is far larger than what is painted, and nothing that is in use lies below the stack pointer but the red zone, which
-    // no function keeps over a call. The painting itself makes no call.
+    // SAFETY: the thread's stack is far larger than what is painted, and nothing in use lies below the stack pointer but the red zone, which is spared.
     unsafe {
         asm!(
             "mov {top}, rsp",
             "mov rdi, rsp",
             "sub rdi, {painted}",
-            "mov ecx, {painted} - 256",
+            "mov ecx, {painted} - {spared}",
             "mov al, {paint}",
             "rep stosb",
             top = out(reg) top,
             painted = const PAINTED,
+            spared = const SPARED,
             paint = const PAINT,
             out("rdi") _,
             out("rcx") _,
@@ -31,11 +34,9 @@ fn taken(call: impl FnOnce()) -> usize {
         );
     }
     call();
-    let mut left = 0;
-    while left < PAINTED && unsafe { ((top - PAINTED + left) as *const u8).read_volatile() } == PAINT {
-        left += 1;
-    }
-    PAINTED - left
+    // SAFETY: these bytes were written above, and are this thread's.
+    let painted = |place: usize| unsafe { ((top - PAINTED + place) as *const u8).read_volatile() } == PAINT;
+    PAINTED - (0..PAINTED).find(|&place| !painted(place)).unwrap_or(PAINTED)
 }
 
 fn rows(n: usize) -> (Vec<i32>, Vec<i32>) {
@@ -66,6 +67,7 @@ fn best_takes_less_than_4096_bytes() {
     });
 }
 
+/// Of the measure itself: optimised, as this workspace builds its tests, a function with an array of 10,000 bytes takes little more.
 #[test]
 fn what_a_painted_stack_shows() {
     in_thread(|| {
@@ -73,7 +75,7 @@ fn what_a_painted_stack_shows() {
         fn deep() {
             black_box([1u8; 10_000]);
         }
-        let bytes = taken(|| deep());
+        let bytes = taken(deep);
         assert!((10_000..11_000).contains(&bytes), "{bytes}");
     });
 }

@@ -228,7 +228,7 @@ pub fn best(a: &[i32], b: &[i32]) -> Numbers {
     best_with_ladder(a, b, &mut [0; 2 * MOST_LEVELS])
 }
 
-/// The same, where each level copies its even half out, to arrays of its own.
+/// As `best_with_ladder`, but each level copies its even half out, to arrays of its own.
 pub fn best_by_copies(a: &[i32], b: &[i32], buffer: &mut [usize]) -> Numbers {
     flat(try_best(a, b, buffer, |ladder| halve_copies(a, b, 1, ladder)))
 }

@@ -7,6 +7,7 @@ use mir.Syntax.{w32}
 use mir.Val.{SFits}
 use mir.ValLaws.{toZ-pos}
 use Rattle.whole.proofs.Machine.{back}
+use Rattle.jumper.specs.Limits.{maxPairs}
 use Rattle.best.proofs.Strides.{readable, shift-small, low-fits, high-fits, trial-read}
 use Rattle.best.proofs.trial.try_at.Statement.{statement}
 use Rattle.best.proofs.trial.try_at.Tie as tie
@@ -24,7 +25,7 @@ read-at-requires : tie.Need-read-at-requires
 read-at-requires c κs = readable (c .pre)
 
 -- the shift, as the code works it out
-small : (k : tie.After-read-at) → let a = k .before .args in a .lower * a .s < 2048
+small : (k : tie.After-read-at) → let a = k .before .args in a .lower * a .s < maxPairs
 small k = let s = k .before in let a = s .args in shift-small (a .a .now) (a .b .now) (a .s) (a .first) (a .step) (a .lower) (a .m) (s .pre) (k .read-at .result) (k .read-at .ensures)
 
 mul-shift : tie.Need-mul-shift
