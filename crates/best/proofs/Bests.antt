@@ -100,7 +100,9 @@ pub best-is-best : (m : ℕ) (x y : ℕ → ℤ) → 1 ≤ m → Steady m x → 
 best-is-best =
     by-halving (λ m x y. Steady m x → Steady m y → BestOf m x y (halving m x y .best))
     (λ x y sx sy. rw (one-pair x y) (one-best x y))
-    (λ m x y l ih sx sy. rw (more-pairs m x y l) (level-best m x y l sx sy (halving (half m) (evens x) (evens y) .best) (ih (evens-steady sx) (evens-steady sy)) (halving (half m) (evens x) (evens y) .count)))
+    (λ m x y l ih sx sy.
+    let e = halving (half m) (evens x) (evens y) in
+    rw (more-pairs m x y l) (level-best m x y l sx sy (e .best) (ih (evens-steady sx) (evens-steady sy)) (e .count)))
 
 -- two differences a pair at most are read before 2h is tried
 past-read : (m : ℕ) (x y : ℕ → ℤ) (h c c' : ℕ) → Past m x y h c c' → c' ≤ c + 2 * m

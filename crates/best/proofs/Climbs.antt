@@ -57,11 +57,12 @@ module _ (m : ℕ) (x y : ℕ → ℤ) (more : 1 < m) (l z : List ℕ) (u : Leve
       let k : b ≡ fromHalf m x y (e .best) (e .count) .best = eb ∙ ap (λ (t : Halving). t .best) g in
       el ∙ ap (λ (t : List ℕ). m ∷ b ∷ t) (put-rest 2 l z i ∙ no-more z) ∙ rw g (rw (j, k))
 
-  pub more-halved : (r : Level) (l' : List ℕ) → 2 ≤ length l → Chosen m x y (u .best) (u .count) r → l' ≡ m ∷ r .best ∷ drop 2 (putMid 2 (length l - 2) l z) → Halved m x y l l' r
+  pub more-halved : (r : Level) (l' : List ℕ) → 2 ≤ length l → Chosen m x y (u .best) (u .count) r → l' ≡ m ∷ r .best ∷ drop 2 (putMid 2 (length l - 2) l z)
+      → Halved m x y l l' r
   more-halved r l' i c el = let v = level-next r c in record { level = v; ladder = ladder-next l' (r .best) i el (v .best) }
 
 -- and for `climb`: p is the level's stride
-module _ (a b : List ℤ) (p m : ℕ) (l : List ℕ) (c : Climbable a b p m l) (more : 1 < m) where
+module _ {a b : List ℤ} {p m : ℕ} {l : List ℕ} (c : Climbable a b p m l) (more : 1 < m) where
   pub two-rungs : 2 ≤ length l
   two-rungs = omega (arith, c .rungs, more-levels m more)
 
@@ -69,7 +70,7 @@ module _ (a b : List ℤ) (p m : ℕ) (l : List ℕ) (c : Climbable a b p m l) (
   pub climb-next : (l' : List ℕ) → length l' ≡ length l - 2 → Climbable a b (2 * p) (half m) l'
   climb-next l' e = record { strided = even-strided more (c .strided); rungs = omega (arith, c .rungs, more-levels m more) }
 
-  module _ (z z' : List ℕ) (u : Level) (under : Climbed a b (2 * p) (half m) z z' u) where
+  module _ {z z' : List ℕ} {u : Level} (under : Climbed a b (2 * p) (half m) z z' u) where
     -- what the even half came to, by the rule's name for it
     pub by-evens : Halved (half m) (evens (levelEntries a p)) (evens (levelEntries b p)) z z' u
     by-evens = rw (even-entries a p, even-entries b p) under

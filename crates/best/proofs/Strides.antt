@@ -54,7 +54,8 @@ pub inside-row : {a b : List ℤ} {m first step lower : ℕ} → Strided a b m f
 inside-row {a} {b} {m} {first} {step} {lower} s j h = omega (arith, s .inside, mul-le-mul-left {m = j} {n = m - 1} step (omega arith))
 
 -- they never fall
-steady : {n : ℕ} (a : List ℤ) → Rising n (pad a) → (m first step lower : ℕ) → lower ≤ step → ((j : ℕ) → j < m → first + step * j < n) → Steady m (entries a first step lower)
+steady : {n : ℕ} (a : List ℤ) → Rising n (pad a) → (m first step lower : ℕ) → lower ≤ step → ((j : ℕ) → j < m → first + step * j < n)
+    → Steady m (entries a first step lower)
 steady {n} a r m first step lower l inside i j h g =
     let k = first + step * i in
     let k' = first + step * j in
@@ -75,11 +76,12 @@ pub bottom-steady : {a b : List ℤ} {m first step lower : ℕ} → Strided a b 
 bottom-steady {a} {b} {m} {first} {step} {lower} s = steady a (s .rows .bottom .rising) m first step lower (s .lowered) (inside-row s)
 
 pub top-steady : {a b : List ℤ} {m first step lower : ℕ} → Strided a b m first step lower → Steady m (entries b first step lower)
-top-steady {a} {b} {m} {first} {step} {lower} s = steady b (s .rows .top .rising) m first step lower (s .lowered) (λ j h. omega (arith, inside-row s j h, s .rows .equal))
+top-steady {a} {b} {m} {first} {step} {lower} s =
+    steady b (s .rows .top .rising) m first step lower (s .lowered) (λ j h. omega (arith, inside-row s j h, s .rows .equal))
 
 -- two pads of accepted rows: their difference is within an i32
-pub near-pads : (a b : List ℤ) → AcceptedRows a b → (i j : ℕ) → i < length a → j < length a → Near a i b j
-near-pads a b r i j h k =
+pub near-pads : {a b : List ℤ} {i j : ℕ} → AcceptedRows a b → i < length a → j < length a → Near a i b j
+near-pads {a} {b} {i} {j} r h k =
     record { inA = h; inB = omega (arith, r .equal); nearA = omega (arith, near a (r .bottom) i); nearB = omega (arith, near b (r .top) j) }
 
 -- the pads that round i reads are in the rows
@@ -95,6 +97,12 @@ readable {a} {b} {m} {s} {first} {step} {lower} t =
       few = omega (arith, t .strided .few);
       inside = omega (arith, t .strided .inside, rw e at (mul-add step (m - s - 1) s));
     }
+
+-- how far its ends are moved is no large number
+pub shift-small : {a b : List ℤ} {m s first step lower : ℕ} → Triable a b m s first step lower → lower * s < maxPairs
+shift-small {a} {b} {m} {s} {first} {step} {lower} t =
+    let p = t .strided in
+    omega (arith, p .inside, p .rows .few, mul-le-mul {n₁ = lower} {m₁ = s} {n₂ = step} {m₂ = m - 1} (p .lowered) (omega (arith, t .inside)))
 
 -- every low end is `lower` s further on than what is read for it, every high end as much less
 module _ (a b : List ℤ) (s first step lower : ℕ) where
@@ -140,9 +148,6 @@ module _ (a b : List ℤ) (s first step lower : ℕ) where
 
   -- as a trial works them out from what is read
   module _ (m : ℕ) (t : Triable a b m s first step lower) (r : Trial) (e : r ≡ readOf a b first step (step * s) (m - s - 1)) where
-    pub shift-small : lower * s < maxPairs
-    shift-small = omega (arith, t .strided .inside, t .strided .rows .few, mul-le-mul {n₁ = lower} {m₁ = s} {n₂ = step} {m₂ = m - 1} (t .strided .lowered) (omega (arith, t .inside)))
-
     near-difference : (i j : ℕ) → natAbs (pad a i -ℤ pad b j) ≤ 2000000
     near-difference i j = omega (arith, abs-dif (pad a i) (pad b j), near a (t .strided .rows .bottom) i, near b (t .strided .rows .top) j)
 
@@ -150,13 +155,13 @@ module _ (a b : List ℤ) (s first step lower : ℕ) where
     low-fits =
         let k = first + step * largestAt lows (m - s - 1) in
         let d = pad a k -ℤ pad b (k + step * s) in
-        rw e (fits32 (d +ℤ pos (lower * s)) (omega (arith, abs-sum d (pos (lower * s)), near-difference k (k + step * s), shift-small)))
+        rw e (fits32 (d +ℤ pos (lower * s)) (omega (arith, abs-sum d (pos (lower * s)), near-difference k (k + step * s), shift-small t)))
 
     pub high-fits : mag (r .high -ℤ pos (lower * s)) < 2 ^ 31
     high-fits =
         let k = first + step * smallestAt highs (m - s - 1) in
         let d = pad a (k + step * s) -ℤ pad b k in
-        rw e (fits32 (d -ℤ pos (lower * s)) (omega (arith, abs-dif d (pos (lower * s)), near-difference (k + step * s) k, shift-small)))
+        rw e (fits32 (d -ℤ pos (lower * s)) (omega (arith, abs-dif d (pos (lower * s)), near-difference (k + step * s) k, shift-small t)))
 
     pub trial-read : _≡_ {A = Trial} (record { low = r .low +ℤ pos (lower * s); high = r .high -ℤ pos (lower * s); count = r .count }) (trialOf m x y s)
     trial-read = let n : 2 * (m - s - 1 + 1) ≡ 2 * (m - s) = omega (arith, t .inside) in rw e (rw (low-from m, high-from m, n))

@@ -1,8 +1,8 @@
 //! The calls now and at an earlier revision, by turns, in one run. `rust/before REVISION` builds what is needed and runs this. Only for revisions whose
 //! exports have the same arguments and records as today's: the linker can't tell.
 mod race;
-use obrastyn::{Line, Numbers, Order};
-use race::{race, row, rows};
+use obrastyn::{Line, Numbers};
+use race::{form, kind, race, row, rows, table};
 use std::hint::black_box;
 
 extern "C" {
@@ -23,7 +23,7 @@ fn same(agree: bool) {
 }
 
 fn rule(n: usize, tight: bool) {
-    let kind = if tight { "tight" } else { "loose" };
+    let kind = kind(tight);
     let (a, b) = rows(n, tight, 7 + n as u64);
     let s = obrastyn::least(&a, &b, 0).separation;
     let (x, y) = (&a[..], &b[..]);
@@ -52,32 +52,16 @@ fn route(n: usize, s: usize) {
     same(now == then);
 }
 
-fn form(tight: bool) {
-    let kind = if tight { "tight" } else { "loose" };
-    let (mut a, mut b) = (Vec::new(), Vec::new());
-    for line in 0..64 {
-        let (x, y) = rows(2048, tight, 99 + line);
-        a.extend(x);
-        b.extend(y);
-    }
-    let order = |k: usize| Order { bottom: 2048 * k, top: 2048 * k, pairs: 2048, separation: obrastyn::LEAST, offset: obrastyn::BEST };
-    let mut now: Vec<Line> = (0..64).map(|k| Line { order: order(k), answer: Default::default() }).collect();
+fn whole_form(tight: bool) {
+    let (mut now, a, b) = form(tight);
     let mut then = now.clone();
-    let (x, y, n) = (&a[..], &b[..], a.len());
+    let (x, y, n, kind) = (&a[..], &b[..], a.len(), kind(tight));
     let (p, q) = (a.as_ptr(), b.as_ptr());
     row(&format!("form, 64 lines of 2048 pairs, {kind}"), race(|| obrastyn::answer_all(black_box(&mut now), x, y), || unsafe { before_answer_all(black_box(then.as_mut_ptr()), 64, p, n, q, n) }));
     same(now == then);
 }
 
 fn main() {
-    println!("{:44} {:>12} {:>12} {:>7}", "call", "now, us", "before, us", "ratio");
-    for n in [64, 512, 2048] {
-        for tight in [true, false] {
-            rule(n, tight);
-        }
-    }
-    form(true);
-    form(false);
-    route(512, 256);
-    route(2048, 1024);
+    let head = format!("{:44} {:>12} {:>12} {:>7}", "call", "now, us", "before, us", "ratio");
+    table(&head, rule, whole_form, route);
 }

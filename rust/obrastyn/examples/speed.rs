@@ -2,12 +2,12 @@
 //! `cargo run --release --offline --example speed` prints a table; docs/SPEED.md has the figures of one run.
 //! A figure is the median of many rounds, the two sides taking turns. Buffers are lent as they are, not cleared between rounds.
 mod race;
-use race::{race, row, rows};
+use race::{form, kind, race, row, rows, table};
 use reference::baseline;
 use std::hint::black_box;
 
 fn rule(n: usize, tight: bool) {
-    let kind = if tight { "tight" } else { "loose" };
+    let kind = kind(tight);
     let (a, b) = rows(n, tight, 7 + n as u64);
     let least = obrastyn::least(&a, &b, 0).separation;
     let (x, y) = (&a[..], &b[..]);
@@ -38,32 +38,17 @@ fn route(n: usize, s: usize) {
     row(&format!("check, {n} pairs by {s} tracks"), race(|| obrastyn::check(black_box(x), black_box(y), s, 0, &ours), || baseline::check(black_box(x), black_box(y), s, 0, &plain)));
 }
 
-/// A full form: 64 lines of 2,048 pairs, "least" and "best".
-fn form(tight: bool) {
+fn whole_form(tight: bool) {
     use reference::form::{Record, Wish};
-    let kind = if tight { "tight" } else { "loose" };
-    let (mut a, mut b) = (Vec::new(), Vec::new());
-    for line in 0..64 {
-        let (x, y) = rows(2048, tight, 99 + line);
-        a.extend(x);
-        b.extend(y);
-    }
-    let order = |k: usize| obrastyn::Order { bottom: 2048 * k, top: 2048 * k, pairs: 2048, separation: obrastyn::LEAST, offset: obrastyn::BEST };
-    let mut ours: Vec<obrastyn::Line> = (0..64).map(|k| obrastyn::Line { order: order(k), answer: Default::default() }).collect();
-    let mut plain: Vec<Record> = (0..64).map(|k| Record { bottom_start: 2048 * k, top_start: 2048 * k, count: 2048, wish: Wish { separation: None, offset: None }, answer: Default::default() }).collect();
-    let (x, y) = (&a[..], &b[..]);
+    let (mut ours, a, b) = form(tight);
+    let wish = || Wish { separation: None, offset: None };
+    let record = |k: usize| Record { bottom_start: 2048 * k, top_start: 2048 * k, count: 2048, wish: wish(), answer: Default::default() };
+    let mut plain: Vec<Record> = (0..64).map(record).collect();
+    let (x, y, kind) = (&a[..], &b[..], kind(tight));
     row(&format!("form, 64 lines of 2048 pairs, {kind}"), race(|| obrastyn::answer_all(black_box(&mut ours), x, y), || baseline::answer_form(black_box(&mut plain), x, y)));
 }
 
 fn main() {
-    println!("{:44} {:>12} {:>12} {:>7}", "call", "ours, us", "plain, us", "ratio");
-    for n in [64, 512, 2048] {
-        for tight in [true, false] {
-            rule(n, tight);
-        }
-    }
-    form(true);
-    form(false);
-    route(512, 256);
-    route(2048, 1024);
+    let head = format!("{:44} {:>12} {:>12} {:>7}", "call", "ours, us", "plain, us", "ratio");
+    table(&head, rule, whole_form, route);
 }

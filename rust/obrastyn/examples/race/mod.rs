@@ -1,4 +1,5 @@
-//! Two sides that take turns, and the rows they are timed on.
+//! Two sides that take turns, the rows and the form they are timed on, and the sizes.
+use obrastyn::{Line, Order};
 use std::hint::black_box;
 use std::time::Instant;
 
@@ -46,4 +47,35 @@ pub fn rows(n: usize, tight: bool, seed: u64) -> (Vec<i32>, Vec<i32>) {
     let a = row(0);
     let b = row(1);
     (a, b)
+}
+
+/// A full form: 64 lines of 2,048 pairs, "least" and "best", and its two pools.
+pub fn form(tight: bool) -> (Vec<Line>, Vec<i32>, Vec<i32>) {
+    let (mut a, mut b) = (Vec::new(), Vec::new());
+    for line in 0..64 {
+        let (x, y) = rows(2048, tight, 99 + line);
+        a.extend(x);
+        b.extend(y);
+    }
+    let order = |k: usize| Order { bottom: 2048 * k, top: 2048 * k, pairs: 2048, separation: obrastyn::LEAST, offset: obrastyn::BEST };
+    let lines = (0..64).map(|k| Line { order: order(k), answer: Default::default() }).collect();
+    (lines, a, b)
+}
+
+/// Every size: the calls of the rule on tight and loose rows, the form, and routes.
+pub fn table(head: &str, rule: fn(usize, bool), form: fn(bool), route: fn(usize, usize)) {
+    println!("{head}");
+    for n in [64, 512, 2048] {
+        for tight in [true, false] {
+            rule(n, tight);
+        }
+    }
+    form(true);
+    form(false);
+    route(512, 256);
+    route(2048, 1024);
+}
+
+pub fn kind(tight: bool) -> &'static str {
+    if tight { "tight" } else { "loose" }
 }

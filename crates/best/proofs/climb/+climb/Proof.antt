@@ -4,7 +4,7 @@ use native.Mathlib.Omega.{arith}
 use borrow.Author.Needs.{needs}
 use borrow.Rule.Slice.PartMut.{mid-len, same-len-mid}
 use lib.ListN.{length}
-use mathlib.Core.Path.{_∙_}
+use mathlib.Core.Path.{_≡_, _∙_}
 use Rattle.best.specs.Work.{levelEntries}
 use Rattle.best.proofs.Levels.{some-levels}
 use Rattle.best.proofs.Strides.{step-small}
@@ -56,7 +56,8 @@ climb-returns t c =
     let k = c .before .before .before in
     let s = k .before .before .before .before in
     let a = s .args in
-    one-halved (a .m) (levelEntries (a .a .now) (a .step)) (levelEntries (a .b .now) (a .step)) (a .ladder .now) _ _ (omega (arith, s .pre .1 .strided .some, k .before .before .if1 .taken)) (k .set-rung .ensures) (c .lowest .ensures)
+    let one : a .m ≡ 1 = omega (arith, s .pre .1 .strided .some, k .before .before .if1 .taken) in
+    one-halved (a .m) (levelEntries (a .a .now) (a .step)) (levelEntries (a .b .now) (a .step)) (a .ladder .now) _ _ one (k .set-rung .ensures) (c .lowest .ensures)
 
 climb-mul-climb : (t : ℕ) → climb-lts.Need-mul-climb (told t) (climb-at t) climb.Post
 climb-mul-climb t c = omega (arith, step-small (c .if1 .left) (c .before .before .pre .1 .strided))
@@ -80,7 +81,7 @@ climb-climb-requires t c κs =
     let a = s .args in
     let l = a .ladder .now in (
       omega (arith, s .pre .0, k .if1 .left),
-      climb-next (a .a .now) (a .b .now) (a .step) (a .m) l (s .pre .1) (k .if1 .left) _ (mid-len 2 (length l) l (omega arith)),
+      climb-next (s .pre .1) (k .if1 .left) _ (mid-len 2 (length l) l (omega arith)),
     )
 
 climb-choose-requires : (t : ℕ) → climb-lts.Need-choose-requires (told t) (climb-at t) climb.Post
@@ -88,17 +89,15 @@ climb-choose-requires t c κs =
     let k = c .before .before in
     let h = k .before .before in
     let s = h .before .before in
-    let a = s .args in
-    choose-next (a .a .now) (a .b .now) (a .step) (a .m) (a .ladder .now) (s .pre .1) (h .if1 .left) _ _ (k .climb .result) (k .climb .ensures)
+    choose-next (s .pre .1) (h .if1 .left) (k .climb .ensures)
 
 climb-set-rung-requires-2 : (t : ℕ) → climb-lts.Need-set-rung-requires-2 (told t) (climb-at t) climb.Post
 climb-set-rung-requires-2 t c κs =
     let k = c .before .before .before .before in
     let h = k .before .before in
     let s = h .before .before in
-    let a = s .args in
-    let l = a .ladder .now in
-    omega (arith, two-rungs (a .a .now) (a .b .now) (a .step) (a .m) l (s .pre .1) (h .if1 .left), same-len-mid 2 (length l - 2) l (k .climb .last .1 .1 .1 .1 .0) (k .climb .kept .1 .1 .1 .1 .0))
+    let l = s .args .ladder .now in
+    omega (arith, two-rungs (s .pre .1) (h .if1 .left), same-len-mid 2 (length l - 2) l (k .climb .last .1 .1 .1 .1 .0) (k .climb .kept .1 .1 .1 .1 .0))
 
 climb-same-length-2 : (t : ℕ) → climb-lts.Need-same-length-2 (told t) (climb-at t) climb.Post
 climb-same-length-2 t c =
@@ -118,8 +117,7 @@ climb-returns-2 t c =
     let p = s .pre .1 in
     let more = h .if1 .left in
     more-halved (a .m) (levelEntries (a .a .now) (a .step)) (levelEntries (a .b .now) (a .step)) more l _ (k .climb .result)
-    (by-evens (a .a .now) (a .b .now) (a .step) (a .m) l p more _ _ (k .climb .result) (k .climb .ensures))
-    (j .choose .result) _ (two-rungs (a .a .now) (a .b .now) (a .step) (a .m) l p more) (j .choose .ensures) (n .set-rung2 .ensures)
+    (by-evens p more (k .climb .ensures)) (j .choose .result) _ (two-rungs p more) (j .choose .ensures) (n .set-rung2 .ensures)
 
 pub +climb-spec : {M : Type 1} → statement M
 +climb-spec = close μ-climb λ t. climb-lts.spec (told t)

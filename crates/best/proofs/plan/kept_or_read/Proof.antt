@@ -23,7 +23,9 @@ returns : tie.Need-returns
 returns c =
     let k = c .before in
     let a = k .before .before .before .before .args in
-    read-range _ (leanOf (a .a .now)) (leanOf (a .b .now)) (a .level .best) (k .try-at .result) (c .range2 .result) (whole-trial (a .a .now) (a .b .now) (a .level .best) (k .try-at .result) (k .try-at .ensures)) (c .range2 .ensures)
+    let r = k .try-at .result in
+    let e = whole-trial (a .a .now) (a .b .now) (a .level .best) r (k .try-at .ensures) in
+    read-range _ (leanOf (a .a .now)) (leanOf (a .b .now)) (a .level .best) r (c .range2 .result) e (c .range2 .ensures)
 
 returns-2 : tie.Need-returns-2
 returns-2 c =

@@ -8,6 +8,7 @@ use mir.Syntax.{w32}
 use mir.Val.{toZ}
 use Rattle.whole.specs.Pick.{largest, smallest}
 use Rattle.whole.proofs.Machine.{back}
+use Rattle.jumper.specs.Limits.{maxPairs}
 use Rattle.best.specs.Work.{lowRead, highRead}
 use Rattle.best.proofs.Ends.{larger-step, smaller-step, low-first, high-first, all-read}
 use Rattle.best.proofs.Strides.{near-pads, read-inside}
@@ -27,16 +28,13 @@ add-difference : tie.Need-add-difference Inv-loop μ-loop
 add-difference c = search needs
 
 difference-requires : tie.Need-difference-requires Inv-loop μ-loop
-difference-requires c κs = let a = c .args in near-pads (a .a .now) (a .b .now) (c .pre .rows) (a .first) (a .first + a .gap) (omega (arith, c .pre .inside)) (omega (arith, c .pre .inside))
+difference-requires c κs = near-pads (c .pre .rows) (omega (arith, c .pre .inside)) (omega (arith, c .pre .inside))
 
 add-difference-2 : tie.Need-add-difference-2 Inv-loop μ-loop
 add-difference-2 c = search needs
 
 difference-requires-2 : tie.Need-difference-requires-2 Inv-loop μ-loop
-difference-requires-2 c κs =
-    let k = c .before in
-    let a = k .args in
-    near-pads (a .a .now) (a .b .now) (k .pre .rows) (a .first + a .gap) (a .first) (omega (arith, k .pre .inside)) (omega (arith, k .pre .inside))
+difference-requires-2 c κs = let p = c .before .pre in near-pads (p .rows) (omega (arith, p .inside)) (omega (arith, p .inside))
 
 loop-holds : tie.Need-loop-holds Inv-loop μ-loop
 loop-holds c =
@@ -53,39 +51,35 @@ loop-holds c =
 add-i : tie.Need-add-i Inv-loop μ-loop
 add-i c = search needs
 
--- the pads that the next round reads are in the rows
+-- the pads that the next round reads are in the rows, and so their numbers are small
 inside : (c : tie.In-loop Inv-loop μ-loop) → let a = c .before .before .before .before .args in a .first + a .step * (c .before .loop .i + 1) + a .gap < length (a .a .now)
 inside c = read-inside (c .before .before .before .before .pre) (c .before .loop .i + 1) (omega arith)
 
+small : (c : tie.In-loop Inv-loop μ-loop) → let a = c .before .before .before .before .args in a .first + a .step * (c .before .loop .i + 1) + a .gap < maxPairs
+small c = omega (arith, inside c, c .before .before .before .before .pre .rows .few)
+
 mul-k : tie.Need-mul-k Inv-loop μ-loop
-mul-k c = omega (arith, inside c, c .before .before .before .before .pre .rows .few)
+mul-k c = omega (arith, small c)
 
 add-k : tie.Need-add-k Inv-loop μ-loop
-add-k c = omega (arith, inside c, c .before .before .before .before .pre .rows .few)
+add-k c = omega (arith, small c)
 
 add-difference-3 : tie.Need-add-difference-3 Inv-loop μ-loop
-add-difference-3 c = omega (arith, inside c, c .before .before .before .before .pre .rows .few)
+add-difference-3 c = omega (arith, small c)
 
 difference-requires-3 : tie.Need-difference-requires-3 Inv-loop μ-loop
-difference-requires-3 c κs =
-    let k = c .before in
-    let e = k .before .before .before in
-    let a = e .args in
-    near-pads (a .a .now) (a .b .now) (e .pre .rows) (a .first + a .step * (k .loop .i + 1)) (a .first + a .step * (k .loop .i + 1) + a .gap) (omega (arith, inside c)) (inside c)
+difference-requires-3 c κs = near-pads (c .before .before .before .before .pre .rows) (omega (arith, inside c)) (inside c)
 
 larger-requires : tie.Need-larger-requires Inv-loop μ-loop
 larger-requires c κs = search needs
 
 add-difference-4 : tie.Need-add-difference-4 Inv-loop μ-loop
-add-difference-4 c = let at-loop = c .before .before in omega (arith, inside at-loop, at-loop .before .before .before .before .pre .rows .few)
+add-difference-4 c = omega (arith, small (c .before .before))
 
 difference-requires-4 : tie.Need-difference-requires-4 Inv-loop μ-loop
 difference-requires-4 c κs =
     let at-loop = c .before .before in
-    let k = at-loop .before in
-    let e = k .before .before .before in
-    let a = e .args in
-    near-pads (a .a .now) (a .b .now) (e .pre .rows) (a .first + a .step * (k .loop .i + 1) + a .gap) (a .first + a .step * (k .loop .i + 1)) (inside at-loop) (omega (arith, inside at-loop))
+    near-pads (at-loop .before .before .before .before .pre .rows) (inside at-loop) (omega (arith, inside at-loop))
 
 smaller-requires : tie.Need-smaller-requires Inv-loop μ-loop
 smaller-requires c κs = search needs
@@ -100,13 +94,15 @@ loop-again c =
     let h = c .before .difference4 in
     let k = g .before .before .before in
     let a = k .before .before .before .args in
+    let lows = lowRead (a .a .now) (a .b .now) (a .first) (a .step) (a .gap) in
+    let highs = highRead (a .a .now) (a .b .now) (a .first) (a .step) (a .gap) in
     let i = k .loop .i in (
       omega arith,
       (
         back (g .larger .result) (g .larger .ok)
-            ∙ larger-step (lowRead (a .a .now) (a .b .now) (a .first) (a .step) (a .gap)) i _ _ _ (k .loop .inv .1 .0) (back (l .result) (l .ok) ∙ l .ensures) (g .larger .ensures),
+            ∙ larger-step lows i _ _ _ (k .loop .inv .1 .0) (back (l .result) (l .ok) ∙ l .ensures) (g .larger .ensures),
         back (c .smaller .result) (c .smaller .ok)
-            ∙ smaller-step (highRead (a .a .now) (a .b .now) (a .first) (a .step) (a .gap)) i _ _ _ (k .loop .inv .1 .1) (back (h .result) (h .ok) ∙ h .ensures) (c .smaller .ensures),
+            ∙ smaller-step highs i _ _ _ (k .loop .inv .1 .1) (back (h .result) (h .ok) ∙ h .ensures) (c .smaller .ensures),
       ),
     )
 

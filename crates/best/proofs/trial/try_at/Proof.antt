@@ -1,4 +1,4 @@
-use Prim.Native.Nat.{_+_, _-_, _*_, _<_}
+use Prim.Native.Nat.{_+_, _-_, _*_}
 use native.Mathlib.Omega.{arith}
 use borrow.Author.Needs.{needs}
 use lib.IntN.{pos, _+ℤ_, _-ℤ_}
@@ -7,7 +7,6 @@ use mir.Syntax.{w32}
 use mir.Val.{SFits}
 use mir.ValLaws.{toZ-pos}
 use Rattle.whole.proofs.Machine.{back}
-use Rattle.jumper.specs.Limits.{maxPairs}
 use Rattle.best.proofs.Strides.{readable, shift-small, low-fits, high-fits, trial-read}
 use Rattle.best.proofs.trial.try_at.Statement.{statement}
 use Rattle.best.proofs.trial.try_at.Tie as tie
@@ -24,15 +23,11 @@ sub-read-at-2 c = search needs
 read-at-requires : tie.Need-read-at-requires
 read-at-requires c κs = readable (c .pre)
 
--- the shift, as the code works it out
-small : (k : tie.After-read-at) → let a = k .before .args in a .lower * a .s < maxPairs
-small k = let s = k .before in let a = s .args in shift-small (a .a .now) (a .b .now) (a .s) (a .first) (a .step) (a .lower) (a .m) (s .pre) (k .read-at .result) (k .read-at .ensures)
-
 mul-shift : tie.Need-mul-shift
-mul-shift c = omega (arith, small c)
+mul-shift c = omega (arith, shift-small (c .before .pre))
 
 cast-shift : tie.Need-cast-shift
-cast-shift c = record { sfits = omega (arith, small c) }
+cast-shift c = record { sfits = omega (arith, shift-small (c .before .pre)) }
 
 add-low : tie.Need-add-low
 add-low c =
@@ -40,7 +35,7 @@ add-low c =
     let s = k .before in
     let a = s .args in
     let f : SFits w32 (k .read-at .result .low) = search needs in
-    rw (toZ-ofZ f, toZ-pos w32 (a .lower * a .s) (omega (arith, small k)))
+    rw (toZ-ofZ f, toZ-pos w32 (a .lower * a .s) (omega (arith, shift-small (s .pre))))
     (record { sfits = low-fits (a .a .now) (a .b .now) (a .s) (a .first) (a .step) (a .lower) (a .m) (s .pre) (k .read-at .result) (k .read-at .ensures) })
 
 sub-high : tie.Need-sub-high
@@ -49,7 +44,7 @@ sub-high c =
     let s = k .before in
     let a = s .args in
     let f : SFits w32 (k .read-at .result .high) = search needs in
-    rw (toZ-ofZ f, toZ-pos w32 (a .lower * a .s) (omega (arith, small k)))
+    rw (toZ-ofZ f, toZ-pos w32 (a .lower * a .s) (omega (arith, shift-small (s .pre))))
     (record { sfits = high-fits (a .a .now) (a .b .now) (a .s) (a .first) (a .step) (a .lower) (a .m) (s .pre) (k .read-at .result) (k .read-at .ensures) })
 
 returns : tie.Need-returns
@@ -65,7 +60,7 @@ returns c =
     rw (
       toZ-ofZ fl,
       toZ-ofZ fh,
-      toZ-pos w32 (a .lower * a .s) (omega (arith, small k)),
+      toZ-pos w32 (a .lower * a .s) (omega (arith, shift-small (s .pre))),
       back (r .low +ℤ z) (low-fits (a .a .now) (a .b .now) (a .s) (a .first) (a .step) (a .lower) (a .m) (s .pre) r e),
       back (r .high -ℤ z) (high-fits (a .a .now) (a .b .now) (a .s) (a .first) (a .step) (a .lower) (a .m) (s .pre) r e),
     )
