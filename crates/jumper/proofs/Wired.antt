@@ -4,8 +4,7 @@ use mathlib.Core.Logic.{_↔_}
 use Prim.Native.Nat.{ℕ, _+_, _≤_, _<_}
 use native.Mathlib.Omega.{arith}
 use lib.ListN.{length}
-use lib.IntN.{ℤ, pos}
-use lib.Signed.{_≤ℤ_}
+use lib.IntN.{ℤ, pos, _-ℤ_}
 use Rattle.whole.proofs.Arith.{up, down, arithℤ, dif, sum}
 use Rattle.wiring.specs.Wiring.{HasWiring, pad}
 use Rattle.wiring.specs.Fit.{leanOf, Fits}
@@ -13,7 +12,7 @@ use Rattle.wiring.specs.Tracks.{ruleAt, tracksFor}
 use Rattle.wiring.proofs.Rule.{spread}
 use Rattle.wiring.proofs.Serves.{rule-most}
 use Rattle.wiring.proofs.Theorem.{fit-exactly}
-use Rattle.jumper.specs.Limits.{maxPairs, maxTracks, lastColumn, AcceptedOffset}
+use Rattle.jumper.specs.Limits.{maxPairs, maxTracks, AcceptedColumn, AcceptedOffset}
 use Rattle.jumper.specs.Rows.{AcceptedRow, AcceptedRows}
 use Rattle.jumper.specs.Asked.{AcceptedTracks, Asked}
 
@@ -33,21 +32,24 @@ pub tracks-most : (n : ℕ) → n ≤ maxPairs → tracksFor n ≤ maxTracks
 unfolding tracksFor
 tracks-most n h = h
 
--- an accepted row leans from 0 to the last column
-lean-low : {a : List ℤ} → AcceptedRow a → (k : ℕ) → k < length a → pos 0 ≤ℤ leanOf a k
-lean-low {a} h k l = omega (arithℤ, dif (pad a k) (pos k), sum (pad a 0) (pos k), spread (h .rising) k 0 k (omega arith) l, h .columns 0 (omega arith) .low)
+-- a difference of two columns is an accepted offset; so the ends of a range, which are such differences, need no clipping
+pub difference-accepted : {x y : ℤ} → AcceptedColumn x → AcceptedColumn y → AcceptedOffset (x -ℤ y)
+difference-accepted {x} {y} p q = record { low = omega (arithℤ, dif x y, p .low, q .high); high = omega (arithℤ, dif x y, p .high, q .low) }
 
-lean-high : {a : List ℤ} → AcceptedRow a → (k : ℕ) → k < length a → leanOf a k ≤ℤ lastColumn
-lean-high {a} h k l = omega (arithℤ, dif (pad a k) (pos k), h .columns k l .high)
+-- an accepted row leans from column to column
+lean-accepted : {a : List ℤ} → AcceptedRow a → (k : ℕ) → k < length a → AcceptedColumn (leanOf a k)
+lean-accepted {a} h k l =
+    record {
+      low = omega (arithℤ, dif (pad a k) (pos k), sum (pad a 0) (pos k), spread (h .rising) k 0 k (omega arith) l, h .columns 0 (omega arith) .low);
+      high = omega (arithℤ, dif (pad a k) (pos k), h .columns k l .high);
+    }
 
 -- where the rule is read below the number of pairs, every whole-number offset at which a legal wiring exists is an accepted one
 pub wired-accepted : {a b : List ℤ} → AcceptedRows a b → (s : ℕ) (d : ℤ) → ruleAt s < length a → HasWiring a b s d → AcceptedOffset d
 wired-accepted {a} {b} h s d l w =
     let f = wiring-exactly h s d .0 w in
-    let x = leanOf a in
-    let y = leanOf b in
     let e = h .equal in
-    record {
-      low = omega (arithℤ, f .low 0 (omega arith), dif (x 0) (y (0 + ruleAt s)), lean-low (h .bottom) 0 (omega arith), lean-high (h .top) (0 + ruleAt s) (omega arith));
-      high = omega (arithℤ, f .high 0 (omega arith), dif (x (0 + ruleAt s)) (y 0), lean-high (h .bottom) (0 + ruleAt s) (omega arith), lean-low (h .top) 0 (omega arith));
-    }
+    let i = 0 + ruleAt s in
+    let lowest = difference-accepted (lean-accepted (h .bottom) 0 (omega arith)) (lean-accepted (h .top) i (omega arith)) in
+    let highest = difference-accepted (lean-accepted (h .bottom) i (omega arith)) (lean-accepted (h .top) 0 (omega arith)) in
+    record { low = omega (arithℤ, f .low 0 (omega arith), lowest .low); high = omega (arithℤ, f .high 0 (omega arith), highest .high) }
