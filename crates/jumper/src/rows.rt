@@ -78,7 +78,8 @@ fn out_of_range(x: i32) -> bool
     LAST_COLUMN < x
 }
 
-// The search for the first fault of a row whose first column has the place `base`.
+// The search for the first fault of a row whose first column has the place `base`. A column above one that is in range, or above the one left of all, isn't
+// left of them: so a sound column costs two comparisons.
 fn seek_fault(a: &[i32], base: usize) -> Checked
     requires { ⌜ (base ≤ maxPairs) × (length (now a) ≤ maxPairs) ⌝ }
     ensures { λ r. ⌜ r ≡ rowFault base (now (a .entry)) ⌝ }
@@ -87,13 +88,14 @@ fn seek_fault(a: &[i32], base: usize) -> Checked
     let mut before: i32 = FIRST_COLUMN - 1;
     while i < a.len() {
         let x = a[i];
-        let outside = out_of_range(x);
-        let not_above = x <= before;
-        if outside {
-            return Checked::Refused(Refusal::Column(base + i));
-        }
-        if not_above {
+        if x <= before {
+            if out_of_range(x) {
+                return Checked::Refused(Refusal::Column(base + i));
+            }
             return Checked::Refused(Refusal::Order(base + i));
+        }
+        if LAST_COLUMN < x {
+            return Checked::Refused(Refusal::Column(base + i));
         }
         before = x;
         i += 1;

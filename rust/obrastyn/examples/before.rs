@@ -2,10 +2,11 @@
 //! exports have the same arguments and records as today's: the linker can't tell.
 mod race;
 use obrastyn::{Line, Numbers};
-use race::{form, kind, race, row, rows, table};
+use race::{form, kind, last_at_fault, race, row, rows, table};
 use std::hint::black_box;
 
 extern "C" {
+    fn before_obrastyn_rows(a: *const i32, an: usize, b: *const i32, bn: usize) -> Numbers;
     fn before_obrastyn_fit(a: *const i32, an: usize, b: *const i32, bn: usize, s: usize, d: i32) -> Numbers;
     fn before_obrastyn_least(a: *const i32, an: usize, b: *const i32, bn: usize, d: i32) -> Numbers;
     fn before_obrastyn_range(a: *const i32, an: usize, b: *const i32, bn: usize, s: usize) -> Numbers;
@@ -29,6 +30,10 @@ fn rule(n: usize, tight: bool) {
     let (x, y) = (&a[..], &b[..]);
     let (p, q) = (a.as_ptr(), b.as_ptr());
     let (mut now, mut then) = ([0usize; 24], [0usize; 24]);
+    let faulty = last_at_fault(y);
+    let (f, g) = (&faulty[..], faulty.as_ptr());
+    row(&format!("rows, {n} pairs, {kind}"), race(|| obrastyn::rows(black_box(x), black_box(y)), || unsafe { before_obrastyn_rows(black_box(p), n, black_box(q), n) }));
+    row(&format!("rows, {n} pairs, {kind}, last at fault"), race(|| obrastyn::rows(black_box(x), black_box(f)), || unsafe { before_obrastyn_rows(black_box(p), n, black_box(g), n) }));
     row(&format!("fit, {n} pairs, {kind}"), race(|| obrastyn::fit(black_box(x), black_box(y), s, 0), || unsafe { before_obrastyn_fit(black_box(p), n, black_box(q), n, s, 0) }));
     row(&format!("least, {n} pairs, {kind}"), race(|| obrastyn::least(black_box(x), black_box(y), 0), || unsafe { before_obrastyn_least(black_box(p), n, black_box(q), n, 0) }));
     row(&format!("range, {n} pairs, {kind}"), race(|| obrastyn::range(black_box(x), black_box(y), s), || unsafe { before_obrastyn_range(black_box(p), n, black_box(q), n, s) }));

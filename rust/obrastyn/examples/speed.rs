@@ -2,7 +2,7 @@
 //! `cargo run --release --offline --example speed` prints a table; docs/SPEED.md has the figures of one run.
 //! A figure is the median of many rounds, the two sides taking turns. Buffers are lent as they are, not cleared between rounds.
 mod race;
-use race::{form, kind, race, row, rows, table};
+use race::{form, kind, last_at_fault, race, row, rows, table};
 use reference::baseline;
 use std::hint::black_box;
 
@@ -11,6 +11,9 @@ fn rule(n: usize, tight: bool) {
     let (a, b) = rows(n, tight, 7 + n as u64);
     let least = obrastyn::least(&a, &b, 0).separation;
     let (x, y) = (&a[..], &b[..]);
+    let faulty = last_at_fault(y);
+    row(&format!("rows, {n} pairs, {kind}"), race(|| obrastyn::rows(black_box(x), black_box(y)), || baseline::accept_rows(black_box(x), black_box(y))));
+    row(&format!("rows, {n} pairs, {kind}, last at fault"), race(|| obrastyn::rows(black_box(x), black_box(&faulty)), || baseline::accept_rows(black_box(x), black_box(&faulty))));
     row(&format!("fit, {n} pairs, {kind}, at the least"), race(|| obrastyn::fit(black_box(x), black_box(y), least, 0), || baseline::fit(black_box(x), black_box(y), least, 0)));
     row(&format!("fit, {n} pairs, {kind}, at 1"), race(|| obrastyn::fit(black_box(x), black_box(y), 1, 0), || baseline::fit(black_box(x), black_box(y), 1, 0)));
     row(&format!("least, {n} pairs, {kind}"), race(|| obrastyn::least(black_box(x), black_box(y), 0), || baseline::least(black_box(x), black_box(y), 0)));

@@ -49,6 +49,13 @@ pub fn rows(n: usize, tight: bool, seed: u64) -> (Vec<i32>, Vec<i32>) {
     (a, b)
 }
 
+/// The row with its last pad on the one before: a fault that is found last.
+pub fn last_at_fault(row: &[i32]) -> Vec<i32> {
+    let mut faulty = row.to_vec();
+    faulty[row.len() - 1] = row[row.len() - 2];
+    faulty
+}
+
 /// A full form: 64 lines of 2,048 pairs, "least" and "best", and its two pools.
 pub fn form(tight: bool) -> (Vec<Line>, Vec<i32>, Vec<i32>) {
     let (mut a, mut b) = (Vec::new(), Vec::new());

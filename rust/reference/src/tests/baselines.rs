@@ -3,11 +3,12 @@
 use super::forms::random_form;
 use crate::numbers::Numbers;
 use crate::random::*;
-use crate::{baseline, form, halving, rule, wires};
+use crate::{baseline, form, halving, rows, rule, wires};
 
 const MARK: i32 = 0x5A5A_5A5A;
 
 fn same_on(random: &mut Random, a: &[i32], b: &[i32], s: usize, d: i32) {
+    assert_eq!(baseline::accept_rows(a, b), rows::accept_rows(a, b));
     assert_eq!(baseline::fit(a, b, s, d), rule::fit(a, b, s, d));
     assert_eq!(baseline::least(a, b, d), rule::least(a, b, d));
     assert_eq!(baseline::range(a, b, s), rule::range(a, b, s));

@@ -1,30 +1,66 @@
--- The loop's invariant: the row's fault is the fault of what is left, after the column before it.
+-- The loop's invariant: the row's fault is the fault of what is left, after the column before it; and that column isn't left of the one left of all, so what is
+-- above it isn't left of the first.
 use mathlib.Core.Path.{_≡_, sym, _∙_}
-use Prim.Native.Nat.{_≤_, _-_, _+_}
+use mathlib.Core.Bool.{true, false}
+use mathlib.Core.List.{List}
+use Prim.Native.Nat.{ℕ, _≤_, _-_, _+_}
 use native.Mathlib.Nat.{add-zero}
 use borrow.Author.Needs.{needs}
 use lib.ListN.{length, drop}
+use lib.IntN.{ℤ, pos, _-ℤ_}
+use lib.Signed.{_≤ℤ_, ltZ, leZ}
 use mir.Syntax.{w32}
-use mir.Val.{toZ}
-use Rattle.whole.proofs.Order.{untrue}
+use mir.Val.{toZ, ofZ}
+use Rattle.whole.proofs.Arith.{up, down, arithℤ}
+use Rattle.whole.proofs.Order.{untrue, lt-false, false-lt, false-le}
 use Rattle.whole.proofs.Machine.{back}
 use Rattle.wiring.specs.Wiring.{pad}
+use Rattle.jumper.specs.Limits.{firstColumn, lastColumn, AcceptedColumn}
 use Rattle.jumper.specs.Rows.{rowFault, faultAfter}
+use Rattle.jumper.specs.declared.refusal.Refusal.the-variants.{Column}
+use Rattle.jumper.specs.declared.rows.Checked.the-variants.{Refused}
 use Rattle.jumper.proofs.Faults.{column, order, next, done}
 use Rattle.jumper.proofs.rows.seek_fault.Statement.{statement}
 use Rattle.jumper.proofs.rows.seek_fault.Tie as tie
 
 abbrev Inv-loop : tie.InvT-loop
-Inv-loop a base i₀ before₀ i before = (i ≤ length a) × (rowFault base a ≡ faultAfter (toZ w32 before) (base + i) (drop i a))
+Inv-loop a base i₀ before₀ i before =
+    (i ≤ length a) × ((firstColumn -ℤ pos 1) ≤ℤ toZ w32 before) × (rowFault base a ≡ faultAfter (toZ w32 before) (base + i) (drop i a))
 
 abbrev μ-loop : tie.MeasureT-loop
 μ-loop a base i₀ before₀ i before = length a - i
+
+-- where a column has been read: the row, the place in it, the column there and the one before it
+abbrev Read : Type 0
+Read = tie.After-x Inv-loop μ-loop
+
+abbrev row : Read → List ℤ
+row r = r .before .before .before .args .a .now
+
+abbrev place : Read → ℕ
+place r = r .before .before .loop .i
+
+abbrev here : Read → ℤ
+here r = pad (row r) (place r)
+
+abbrev before : Read → ℤ
+before r = toZ w32 (r .before .before .loop .before)
+
+abbrev base : Read → ℕ
+base r = r .before .before .before .args .base
+
+read : (r : Read) → toZ w32 (ofZ w32 (here r)) ≡ here r
+read r = back (here r) (r .x .given)
+
+-- the answer where that column is out of range
+out : (r : Read) → (AcceptedColumn (here r) → ⊥) → Refused (Column (base r + place r)) ≡ rowFault (base r) (row r)
+out r h = sym (r .before .before .loop .inv .2 ∙ column (row r) (before r) (base r) (place r) (r .before .loop-test .taken) h)
 
 sub-before : tie.Need-sub-before Inv-loop μ-loop
 sub-before c = search needs
 
 loop-holds : tie.Need-loop-holds Inv-loop μ-loop
-loop-holds c = (search needs, rw add-zero)
+loop-holds c = (search needs, omega arithℤ, rw add-zero)
 
 mul-x : tie.Need-mul-x Inv-loop μ-loop
 mul-x c = search needs
@@ -35,29 +71,33 @@ shared-slice-copy-out-x c = search needs
 out-of-range-requires : tie.Need-out-of-range-requires Inv-loop μ-loop
 out-of-range-requires c κs = search needs
 
-add-t12 : tie.Need-add-t12 Inv-loop μ-loop
-add-t12 c = search needs
+add-t11 : tie.Need-add-t11 Inv-loop μ-loop
+add-t11 c = search needs
 
 returns : tie.Need-returns Inv-loop μ-loop
 returns c =
-    let x = c .before .before in
-    let k = x .before .before in
-    let a = k .before .args .a .now in
-    let e = back (pad a (k .loop .i)) (x .x .given) in
-    let o = rw e at (c .before .out-of-range .ensures) in
-    sym (k .loop .inv .1 ∙ column a _ (k .before .args .base) (k .loop .i) (x .before .loop-test .taken) (λ r. untrue (sym (o .1 r) ∙ c .if1 .taken)))
+    let r = c .before .before .before in
+    let exactly = rw (read r) at (c .before .out-of-range .ensures) in
+    out r (λ k. untrue (sym (exactly .1 k) ∙ c .if2 .taken))
 
-add-t14 : tie.Need-add-t14 Inv-loop μ-loop
-add-t14 c = search needs
+add-t13 : tie.Need-add-t13 Inv-loop μ-loop
+add-t13 c = search needs
 
 returns-2 : tie.Need-returns-2 Inv-loop μ-loop
 returns-2 c =
-    let x = c .before .before .before in
-    let k = x .before .before in
-    let a = k .before .args .a .now in
-    let e = back (pad a (k .loop .i)) (x .x .given) in
-    let o = rw e at (c .before .before .out-of-range .ensures) in
-    sym (k .loop .inv .1 ∙ order a _ (k .before .args .base) (k .loop .i) (x .before .loop-test .taken) (o .0 (c .before .if1 .left)) (rw e at (c .if2 .taken)))
+    let r = c .before .before .before in
+    let exactly = rw (read r) at (c .before .out-of-range .ensures) in
+    let not-above : leZ (here r) (before r) ≡ true = rw (read r) at (c .before .before .if1 .taken) in
+    sym (r .before .before .loop .inv .2 ∙ order (row r) (before r) (base r) (place r) (r .before .loop-test .taken) (exactly .0 (c .if2 .left)) not-above)
+
+add-t15 : tie.Need-add-t15 Inv-loop μ-loop
+add-t15 c = search needs
+
+returns-3 : tie.Need-returns-3 Inv-loop μ-loop
+returns-3 c =
+    let r = c .before .before in
+    let right : ltZ lastColumn (here r) ≡ true = rw (read r) at (c .if3 .taken) in
+    out r (λ k. untrue (sym (lt-false lastColumn (here r) (k .high)) ∙ right))
 
 add-i : tie.Need-add-i Inv-loop μ-loop
 add-i c = search needs
@@ -67,19 +107,19 @@ loop-less c = search needs
 
 loop-again : tie.Need-loop-again Inv-loop μ-loop
 loop-again c =
-    let x = c .before .before .before in
-    let k = x .before .before in
-    let a = k .before .args .a .now in
-    let e = back (pad a (k .loop .i)) (x .x .given) in
-    let o = rw e at (c .before .before .out-of-range .ensures) in (
+    let r = c .before .before in
+    let x = here r in
+    let above : leZ x (before r) ≡ false = rw (read r) at (c .before .if1 .left) in
+    let not-right : ltZ lastColumn x ≡ false = rw (read r) at (c .if3 .left) in
+    let low : firstColumn ≤ℤ x = omega (arithℤ, false-le x (before r) above, r .before .before .loop .inv .1) in
+    let k : AcceptedColumn x = record { low = low; high = false-lt lastColumn x not-right } in (
       search needs,
-      rw e
-          (k .loop .inv .1
-          ∙ next a _ (k .before .args .base) (k .loop .i) (x .before .loop-test .taken) (o .0 (c .before .if1 .left)) (rw e at (c .if2 .left))),
+      rw (read r) (omega (arithℤ, k .low)),
+      rw (read r) (r .before .before .loop .inv .2 ∙ next (row r) (before r) (base r) (place r) (r .before .loop-test .taken) k above),
     )
 
-returns-3 : tie.Need-returns-3 Inv-loop μ-loop
-returns-3 c = sym (c .before .loop .inv .1 ∙ done _ _ _ _ (c .loop-test .left))
+returns-4 : tie.Need-returns-4 Inv-loop μ-loop
+returns-4 c = sym (c .before .loop .inv .2 ∙ done _ _ _ _ (c .loop-test .left))
 
 pub seek-fault-spec : {M : Type 1} → statement M
 seek-fault-spec =
@@ -92,11 +132,13 @@ seek-fault-spec =
     mul-x
     shared-slice-copy-out-x
     out-of-range-requires
-    add-t12
+    add-t11
     returns
-    add-t14
+    add-t13
     returns-2
+    add-t15
+    returns-3
     add-i
     loop-less
     loop-again
-    returns-3)
+    returns-4)
