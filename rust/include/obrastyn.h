@@ -6,6 +6,12 @@
 #include <stddef.h>
 #include <stdint.h>
 
+/* What is accepted. A column or an offset beyond its limits is refused (4 COLUMN, 7 OFFSET); the datum, column 0, may lie anywhere among the pads. */
+#define OBRASTYN_FIRST_COLUMN (-65535)
+#define OBRASTYN_LAST_COLUMN 65535
+#define OBRASTYN_LOWEST_OFFSET (-131070)
+#define OBRASTYN_HIGHEST_OFFSET 131070
+
 /* All the result numbers of an answer; what an answer doesn't speak of is 0. */
 typedef struct {
     uint8_t refusal;   /* 0, or 1 to 16 */
@@ -25,7 +31,7 @@ obrastyn_numbers obrastyn_rows(const int32_t *a, size_t an, const int32_t *b, si
 obrastyn_numbers obrastyn_fit(const int32_t *a, size_t an, const int32_t *b, size_t bn, size_t s, int32_t d);
 /* The least separation at offset d. Refusals 1 to 5, then 7. */
 obrastyn_numbers obrastyn_least(const int32_t *a, size_t an, const int32_t *b, size_t bn, int32_t d);
-/* The offsets that fit at separation s. Refusals 1 to 6, then 11. */
+/* The offsets that fit at separation s; where there are at least as many tracks as pairs, every accepted one. Refusals 1 to 6, then 11. */
 obrastyn_numbers obrastyn_range(const int32_t *a, size_t an, const int32_t *b, size_t bn, size_t s);
 /* The best separation; the ladder goes to the front of the buffer (24 numbers are always enough). Refusals 1 to 5, then 9. */
 obrastyn_numbers obrastyn_best(const int32_t *a, size_t an, const int32_t *b, size_t bn, size_t *ladder, size_t room);
@@ -47,7 +53,7 @@ typedef struct {
 } obrastyn_place;
 obrastyn_place obrastyn_stretch(const int32_t *a, size_t an, const int32_t *b, size_t bn, size_t s, int32_t d);
 
-/* What a line orders. separation 65535 is "least", offset INT32_MIN is "best". */
+/* What a line orders. separation 65535 is "least", offset INT32_MIN is "best": neither is accepted as a number. */
 typedef struct {
     size_t bottom; /* where its pads start in each pool, and how many pairs they are */
     size_t top;

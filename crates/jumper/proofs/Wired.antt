@@ -1,4 +1,5 @@
 -- Offsets at which accepted rows have a legal wiring.
+use mathlib.Core.Path.{_≡_, refl}
 use mathlib.Core.List.{List}
 use mathlib.Core.Logic.{_↔_}
 use Prim.Native.Nat.{ℕ, _+_, _≤_, _<_}
@@ -12,7 +13,7 @@ use Rattle.wiring.specs.Tracks.{ruleAt, tracksFor}
 use Rattle.wiring.proofs.Rule.{spread}
 use Rattle.wiring.proofs.Serves.{rule-most}
 use Rattle.wiring.proofs.Theorem.{fit-exactly}
-use Rattle.jumper.specs.Limits.{maxPairs, maxTracks, AcceptedColumn, AcceptedOffset}
+use Rattle.jumper.specs.Limits.{maxPairs, maxTracks, firstColumn, lastColumn, lowestOffset, highestOffset, AcceptedColumn, AcceptedOffset}
 use Rattle.jumper.specs.Rows.{AcceptedRow, AcceptedRows}
 use Rattle.jumper.specs.Asked.{AcceptedTracks, Asked}
 
@@ -35,6 +36,10 @@ tracks-most n h = h
 -- a difference of two columns is an accepted offset; so the ends of a range, which are such differences, need no clipping
 pub difference-accepted : {x y : ℤ} → AcceptedColumn x → AcceptedColumn y → AcceptedOffset (x -ℤ y)
 difference-accepted {x} {y} p q = record { low = omega (arithℤ, dif x y, p .low, q .high); high = omega (arithℤ, dif x y, p .high, q .low) }
+
+-- and the two limits of an offset are such differences (02, #105: "Differences and offsets then reach ..")
+pub differences-reach : (firstColumn -ℤ lastColumn ≡ lowestOffset) × (lastColumn -ℤ firstColumn ≡ highestOffset)
+differences-reach = (refl, refl)
 
 -- an accepted row leans from column to column
 lean-accepted : {a : List ℤ} → AcceptedRow a → (k : ℕ) → k < length a → AcceptedColumn (leanOf a k)

@@ -1,4 +1,10 @@
--- 01, "Numbers we accept". Each limit stands here once; a request that moves one moves it here and in src/.
+-- 01, "Numbers we accept", with 02's #105, "Pads left of the datum". Each limit stands here once; a request that moves one moves it here and in
+-- src/. negsuc k is -(k + 1).
+--
+-- Worked, around a centre pin: C = rows -1,0,1 and -2,0,2. Its x are -1,-1,-1 and its y -2,-1,0. At 0 the differences x_i - y_i are 1, 0, -1: no offset.
+-- At 1 the low ends x_i - y_(i+1) are 0, -1 and the high ends x_(i+1) - y_i are 1, 0: offset 0 alone, so C's best is 1. At 2 they are -1 and 1: offsets
+-- -1 to 1. At 3, as many tracks as pairs, every offset: -131,070 to 131,070. Drawn at (1, 0): -1,-2 / 0,0 / 1,2. One pair on column -65,535 in both
+-- rows, drawn at the lowest offset: -65,535,-196,605.
 use Prim.Native.Nat.{ℕ}
 use lib.IntN.{ℤ, pos, negsuc}
 use lib.Signed.{_≤ℤ_}
@@ -7,9 +13,9 @@ use lib.Signed.{_≤ℤ_}
 abbrev pub maxPairs : ℕ
 maxPairs = 2048
 
--- "Columns: 0 to 65,535"
+-- 02: "Columns become -65,535 to 65,535"
 abbrev pub firstColumn : ℤ
-firstColumn = pos 0
+firstColumn = negsuc 65534
 
 abbrev pub lastColumn : ℤ
 lastColumn = pos 65535
@@ -18,12 +24,12 @@ lastColumn = pos 65535
 abbrev pub maxTracks : ℕ
 maxTracks = 2048
 
--- "Offset: -65,535 to 65,535."
+-- 02: "Differences and offsets then reach -131,070 to 131,070."
 abbrev pub lowestOffset : ℤ
-lowestOffset = negsuc 65534
+lowestOffset = negsuc 131069
 
 abbrev pub highestOffset : ℤ
-highestOffset = pos 65535
+highestOffset = pos 131070
 
 -- "A form: up to 64 lines."
 abbrev pub maxLines : ℕ

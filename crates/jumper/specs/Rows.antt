@@ -18,7 +18,7 @@ use Rattle.jumper.specs.declared.refusal.Refusal.the-variants.{Unequal, 
 use Rattle.jumper.specs.declared.rows.Checked.{Checked}
 use Rattle.jumper.specs.declared.rows.Checked.the-variants.{Accepted, Refused}
 
--- "Columns: 0 to 65,535, each greater than the one before."
+-- 02: "Columns become -65,535 to 65,535"; 01: "each greater than the one before"
 pub record AcceptedRow (a : List ℤ) : Type 0 where
   pub columns : (k : ℕ) → k < length a → AcceptedColumn (pad a k)
   pub rising : Rising (length a) (pad a)

@@ -1,8 +1,8 @@
-// What is accepted (01, "Numbers we accept"), said once in code; specs/Limits.antt says it once for the promises. The limits of an offset are
+// What is accepted (01, "Numbers we accept", and 02, #105), said once in code; specs/Limits.antt says it once for the promises. The limits of an offset are
 // constants of range::OffsetRange.
 pub const MAX_PAIRS: usize = 2048;
 
-pub const FIRST_COLUMN: i32 = 0;
+pub const FIRST_COLUMN: i32 = -65535;
 
 pub const LAST_COLUMN: i32 = 65535;
 

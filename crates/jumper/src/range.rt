@@ -12,9 +12,9 @@ pub struct OffsetRange {
 }
 
 impl OffsetRange {
-    pub const LOWEST: i32 = -65535;
+    pub const LOWEST: i32 = -131070;
 
-    pub const HIGHEST: i32 = 65535;
+    pub const HIGHEST: i32 = 131070;
 
     // The range of every accepted offset.
     pub fn whole() -> Self

@@ -1,9 +1,10 @@
--- 01's jumpers worked by hand, those marked with a star, as one table: what the definitions tell, beside what 01 says.
+-- The jumpers worked by hand, 01's marked with a star and those of 02's requests, as one table: what the definitions tell, beside what is said by hand.
 -- That the two are equal in every case is the theorem `worked` of proofs/Worked.antt.
 use mathlib.Core.List.{List, [], _∷_, map}
 use Prim.Native.Nat.{ℕ}
 use lib.ListN.{length, replicate, getD}
 use lib.IntN.{ℤ, pos, negsuc}
+use Rattle.jumper.specs.Limits.{firstColumn}
 use Rattle.jumper.specs.Rows.{checkedNumbers}
 use Rattle.jumper.specs.declared.refusal.Numbers.{Numbers}
 use Rattle.fit.specs.Misfit.{fitOf}
@@ -32,6 +33,13 @@ K = rows (0 ∷ 5 ∷ []) (0 ∷ 5 ∷ [])
 
 abbrev pub S : Jumper
 S = rows (0 ∷ 1 ∷ 2 ∷ 3 ∷ []) (1 ∷ 2 ∷ 3 ∷ 4 ∷ [])
+
+-- 02, #105: C has its pads around a centre pin, and is worked out at the head of jumper's Limits.antt; L is one pair on the first column
+abbrev pub C : Jumper
+C = record { bottom = negsuc 0 ∷ pos 0 ∷ pos 1 ∷ []; top = negsuc 1 ∷ pos 0 ∷ pos 2 ∷ [] }
+
+abbrev pub L : Jumper
+L = record { bottom = firstColumn ∷ []; top = firstColumn ∷ [] }
 
 -- what the definitions tell, and what is said by hand
 pub record Case : Type 0 where
@@ -110,6 +118,18 @@ table =
     ∷ case (rangeAt J 1) (noOffset 2 0)
     -- "J drawn at (2, 0): 0,0,1 / 1,2,2 / 4,3,3 / 5,5,4."
     ∷ case (drawnAt J 2 (pos 0) (whole (lent 14))) (whole (0 ∷ 0 ∷ 1 ∷ 1 ∷ 2 ∷ 2 ∷ 4 ∷ 3 ∷ 3 ∷ 5 ∷ 5 ∷ 4 ∷ 9 ∷ 9 ∷ []))
+    -- C at 0: NOOFFSET, 0 for the low end, 2 for the high; range at 1 is 0..0, at 2 is -1..1, at 3 -131,070..131,070
+    ∷ case (rangeAt C 0) (noOffset 0 2)
+    ∷ case (rangeAt C 1) (range (pos 0) (pos 0))
+    ∷ case (rangeAt C 2) (range (negsuc 0) (pos 1))
+    ∷ case (rangeAt C 3) (range (negsuc 131069) (pos 131070))
+    -- C best: 1, offsets 0..0, count 8; drawn there: -1,-2 / 0,0 / 1,2
+    ∷ case (best C) (found 1 (pos 0) (pos 0) 8)
+    ∷ case (drawnAt C 1 (pos 0) (whole (lent 7))) (negsuc 0 ∷ negsuc 1 ∷ pos 0 ∷ pos 0 ∷ pos 1 ∷ pos 2 ∷ pos 9 ∷ [])
+    -- C at the lowest offset: least 3, at 2 pair 0 is too far LEFT
+    ∷ case (leastAt C (negsuc 131069)) (least 3 0 2)
+    -- L drawn at (1, -131,070): -65,535,-196,605
+    ∷ case (drawnAt L 1 (negsuc 131069) (whole (lent 2))) (negsuc 65534 ∷ negsuc 196604 ∷ [])
     ∷ []
 
 -- the case at a place of the table

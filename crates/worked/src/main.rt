@@ -1,4 +1,4 @@
-// 01's worked jumpers that ask for a run, and its traps on the bench: a line for each. ../stdout is worked out from 01 by hand; the jumpers marked
+// The worked jumpers of 01 and 02 that ask for a run, and the traps on the bench: a line for each. ../stdout is worked out by hand; the jumpers marked
 // with a star are proved, in ../specs/Table.antt.
 ghost use mathlib.Core.Path.{_≡_};
 ghost use Prim.Native.Nat.{_≤_};
@@ -70,21 +70,41 @@ fn pairs() {
     show_place(b"2,049 pairs", fit(&row, &row, 0, 0).numbers());
 }
 
-// One pair, with a track between its pads.
-fn lone(below: i32, above: i32) -> Numbers {
+// One pair at an offset, with a track between its pads.
+fn lone(below: i32, above: i32, offset: i32) -> Numbers {
     let a = [below];
     let b = [above];
-    fit(&a, &b, 1, 0).numbers()
+    fit(&a, &b, 1, offset).numbers()
 }
 
-// "Column 65,535 passes; 65,536 and -1 COLUMN"
+// "Column 65,535 passes; 65,536 .. COLUMN"; 02, #105: "Columns become -65,535 to 65,535", so -1 passes
 fn columns() {
-    show_place(b"column 65,535 below", lone(65535, 0));
-    show_place(b"column 65,535 above", lone(0, 65535));
-    show_place(b"column 65,536 below", lone(65536, 0));
-    show_place(b"column 65,536 above", lone(0, 65536));
-    show_place(b"column -1 below", lone(-1, 0));
-    show_place(b"column -1 above", lone(0, -1));
+    show_place(b"column 65,535 below", lone(65535, 0, 0));
+    show_place(b"column 65,535 above", lone(0, 65535, 0));
+    show_place(b"column 65,536 below", lone(65536, 0, 0));
+    show_place(b"column 65,536 above", lone(0, 65536, 0));
+    show_place(b"column -1 below", lone(-1, 0, 0));
+    show_place(b"column -1 above", lone(0, -1, 0));
+    show_place(b"column -65,535 below", lone(-65535, 0, 0));
+    show_place(b"column -65,535 above", lone(0, -65535, 0));
+    show_place(b"column -65,536 below", lone(-65536, 0, 0));
+    show_place(b"column -65,536 above", lone(0, -65536, 0));
+}
+
+// 02, #105: "Differences and offsets then reach -131,070 to 131,070"; the last two put the top pad on columns 196,605 and -196,605
+fn offsets() {
+    show_place(b"offset 131,070", lone(0, 0, 131070));
+    show_place(b"offset 131,071", lone(0, 0, 131071));
+    show_place(b"offset -131,070", lone(0, 0, -131070));
+    show_place(b"offset -131,071", lone(0, 0, -131071));
+    show_place(
+        b"column 65,535 twice, offset 131,070",
+        lone(65535, 65535, 131070),
+    );
+    show_place(
+        b"column -65,535 twice, offset -131,070",
+        lone(-65535, -65535, -131070),
+    );
 }
 
 // "3,3 ORDER."
@@ -186,6 +206,7 @@ fn one_pair_fewer() {
 fn main() {
     pairs();
     columns();
+    offsets();
     order();
     separations();
     over_a_line();

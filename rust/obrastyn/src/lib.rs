@@ -16,6 +16,26 @@
 //! assert_eq!(obrastyn::check(&below, &above, 2, 0, &route).refusal, 0);
 //! ```
 
+/// The least column of a pad that is accepted. The datum, column 0, may lie anywhere among the pads.
+///
+/// ```
+/// use obrastyn::{FIRST_COLUMN, LAST_COLUMN, LOWEST_OFFSET};
+/// // from one limit to the other, straight: the top pad is moved as far as an offset goes
+/// assert_eq!(obrastyn::fit(&[FIRST_COLUMN], &[LAST_COLUMN], 0, LOWEST_OFFSET).refusal, 0);
+/// // one column further is refused: 4, COLUMN
+/// assert_eq!(obrastyn::rows(&[FIRST_COLUMN - 1], &[0]).refusal, 4);
+/// ```
+pub const FIRST_COLUMN: i32 = -65535;
+
+/// The greatest column of a pad that is accepted.
+pub const LAST_COLUMN: i32 = 65535;
+
+/// The least offset that is accepted.
+pub const LOWEST_OFFSET: i32 = -131070;
+
+/// The greatest offset that is accepted.
+pub const HIGHEST_OFFSET: i32 = 131070;
+
 /// All the result numbers of an answer (01, "What comes back"). What an answer doesn't speak of is 0.
 #[repr(C)]
 #[derive(Clone, Copy, Debug, Default, PartialEq, Eq)]
@@ -108,7 +128,7 @@ pub fn least(a: &[i32], b: &[i32], d: i32) -> Numbers {
     unsafe { raw::obrastyn_least(a.as_ptr(), a.len(), b.as_ptr(), b.len(), d) }
 }
 
-/// The offsets at which a legal wiring exists at separation `s`: refusals 1 to 6, then NOOFFSET.
+/// The offsets at which a legal wiring exists at separation `s`, with at least as many tracks as pairs every accepted one: refusals 1 to 6, then NOOFFSET.
 pub fn range(a: &[i32], b: &[i32], s: usize) -> Numbers {
     unsafe { raw::obrastyn_range(a.as_ptr(), a.len(), b.as_ptr(), b.len(), s) }
 }

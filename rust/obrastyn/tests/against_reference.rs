@@ -1,4 +1,4 @@
-//! The proved library against the reference, which was written from document 01 alone: random rows and tables, small and at
+//! The proved library against the reference, which was written from documents 01 and 02 alone: random rows and tables, small and at
 //! the limits, valid and damaged. Lent buffers stand between sentinels, and what lies beyond must be untouched.
 use obrastyn::Numbers;
 use reference::random::{any_rows, offset, rows, separation, Random};

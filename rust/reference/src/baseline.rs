@@ -43,7 +43,7 @@ fn check_row(row: &[i32], before_it: usize) -> Result<(), Numbers> {
         .iter()
         .zip(after)
         .fold(true, |rising, (low, high)| rising & (low < high));
-    if rising && row[0] >= 0 && row[row.len() - 1] <= LAST_COLUMN {
+    if rising && row[0] >= FIRST_COLUMN && row[row.len() - 1] <= LAST_COLUMN {
         return Ok(());
     }
     Err(row_fault(row, before_it))
@@ -51,9 +51,9 @@ fn check_row(row: &[i32], before_it: usize) -> Result<(), Numbers> {
 
 #[cold]
 fn row_fault(row: &[i32], before_it: usize) -> Numbers {
-    let mut before = -1;
+    let mut before = FIRST_COLUMN - 1;
     for (i, &column) in row.iter().enumerate() {
-        if !(0..=LAST_COLUMN).contains(&column) {
+        if !(FIRST_COLUMN..=LAST_COLUMN).contains(&column) {
             return Numbers::refused_at(COLUMN, before_it + i, 0);
         }
         if column <= before {

@@ -1,4 +1,4 @@
-//! A reference of the jumper, written from `01-scope.md` alone.
+//! A reference of the jumper, written from `01-scope.md` and `02-change-requests.md` alone.
 //!
 //! Everything outside [`baseline`] is meant to be *read against the text*: slow, plain, the
 //! definitions as they stand. Nothing here is clever where the text is not. The module

@@ -2,12 +2,14 @@
 
 /// Most pairs a jumper may have.
 pub const MOST_PAIRS: usize = 2_048;
-/// Greatest column of a pad; the least is 0.
+/// Least column of a pad.
+pub const FIRST_COLUMN: i32 = -65_535;
+/// Greatest column of a pad.
 pub const LAST_COLUMN: i32 = 65_535;
 /// Greatest separation.
 pub const MOST_TRACKS: usize = 2_048;
 /// Greatest offset; the least is its negative.
-pub const LAST_OFFSET: i32 = 65_535;
+pub const LAST_OFFSET: i32 = 131_070;
 /// Most lines on a form; on a sheet line numbers therefore go from 0 to 63.
 pub const MOST_LINES: usize = 64;
 

@@ -69,14 +69,14 @@ pub const SHAPES: [Shape; 5] = [
     Shape::Wide,
 ];
 
-/// A row of n columns, accepted for n from 1 to 2,048. It starts anywhere there is room, now and
-/// then hard at column 0 or ending at 65,535.
+/// A row of n columns, accepted for n from 1 to 2,048. It lies right of the datum, left of it or
+/// across it, mostly near it, now and then with an end on the first or last column there is.
 pub fn row(random: &mut Random, n: usize, shape: Shape) -> Vec<i32> {
     if n == 0 {
         return Vec::new();
     }
     // No gap is wider than this, so that n of them have room.
-    let widest = (LAST_COLUMN / n as i32).max(1);
+    let widest = ((LAST_COLUMN - FIRST_COLUMN) / n as i32).max(1);
     let mut row = vec![0];
     for _ in 1..n {
         let gap = match shape {
@@ -89,13 +89,16 @@ pub fn row(random: &mut Random, n: usize, shape: Shape) -> Vec<i32> {
         };
         row.push(row[row.len() - 1] + gap.min(widest));
     }
-    let room = LAST_COLUMN - row[n - 1];
-    let start = match random.below(6) {
-        0 => 0,
-        1 => room,
-        2 => random.between(0, room),
-        _ => random.between(0, room.min(12)),
+    let width = row[n - 1];
+    let start = match random.below(9) {
+        0 => FIRST_COLUMN,
+        1 => LAST_COLUMN - width,
+        2 => random.between(FIRST_COLUMN, LAST_COLUMN - width),
+        3 | 4 => random.between(0, 12),
+        5 | 6 => -width - random.between(0, 12),
+        _ => random.between(-2, 2) - row[random.below(n)],
     };
+    let start = start.clamp(FIRST_COLUMN, LAST_COLUMN - width);
     row.iter().map(|column| column + start).collect()
 }
 
@@ -123,7 +126,11 @@ pub fn rows_of(random: &mut Random, n: usize) -> (Vec<i32>, Vec<i32>) {
 pub fn nudged(random: &mut Random, row: &[i32]) -> Vec<i32> {
     let mut moved = row.to_vec();
     for i in 0..moved.len() {
-        let lowest = if i == 0 { 0 } else { moved[i - 1] + 1 };
+        let lowest = if i == 0 {
+            FIRST_COLUMN
+        } else {
+            moved[i - 1] + 1
+        };
         let highest = if i + 1 == moved.len() {
             LAST_COLUMN
         } else {
@@ -143,7 +150,7 @@ pub fn stairs(n: usize) -> (Vec<i32>, Vec<i32>) {
 /// The ways to damage two rows.
 #[derive(Clone, Copy, Debug, PartialEq, Eq)]
 pub enum RowDamage {
-    /// A column below 0 or above 65,535.
+    /// A column below -65,535 or above 65,535.
     OutOfRange,
     /// A column not above the one before.
     OutOfOrder,
@@ -172,7 +179,14 @@ pub fn damage_rows(random: &mut Random, a: &mut Vec<i32>, b: &mut Vec<i32>, how:
         RowDamage::OutOfRange => {
             if !row.is_empty() {
                 let place = random.below(row.len());
-                row[place] = random.pick(&[-1, -2, 65_536, 65_537, i32::MIN, i32::MAX]);
+                row[place] = random.pick(&[
+                    FIRST_COLUMN - 1,
+                    FIRST_COLUMN - 2,
+                    LAST_COLUMN + 1,
+                    LAST_COLUMN + 2,
+                    i32::MIN,
+                    i32::MAX,
+                ]);
             }
         }
         RowDamage::OutOfOrder => {
@@ -235,8 +249,14 @@ pub fn offset(random: &mut Random, a: &[i32], b: &[i32]) -> i32 {
     let n = a.len().min(b.len());
     match random.below(12) {
         0 => 0,
-        1 => random.pick(&[-65_535, -65_534, 65_534, 65_535]),
-        2 => random.pick(&[-65_536, 65_536, i32::MIN, i32::MIN + 1, i32::MAX]),
+        1 => random.pick(&[-LAST_OFFSET, 1 - LAST_OFFSET, LAST_OFFSET - 1, LAST_OFFSET]),
+        2 => random.pick(&[
+            -LAST_OFFSET - 1,
+            LAST_OFFSET + 1,
+            i32::MIN,
+            i32::MIN + 1,
+            i32::MAX,
+        ]),
         3 => random.between(-LAST_OFFSET, LAST_OFFSET),
         4 => random.between(-8, 8),
         _ if n == 0 => 0,
@@ -245,7 +265,7 @@ pub fn offset(random: &mut Random, a: &[i32], b: &[i32]) -> i32 {
             let j = random.below(n);
             let by_bound = (a[i] as i64 - i as i64) - (b[j] as i64 - j as i64);
             let near = by_bound + random.between(-1, 1) as i64;
-            near.clamp(-70_000, 70_000) as i32
+            near.clamp(-140_000, 140_000) as i32
         }
     }
 }

@@ -25,7 +25,7 @@ pub(crate) fn check_rows(a: &[i32], b: &[i32]) -> Result<(), Numbers> {
     }
     for (row, before_it) in [(a, 0), (b, n)] {
         for i in 0..n {
-            if row[i] < 0 || row[i] > LAST_COLUMN {
+            if row[i] < FIRST_COLUMN || row[i] > LAST_COLUMN {
                 return Err(Numbers::refused_at(COLUMN, before_it + i, 0));
             }
             if i > 0 && row[i] <= row[i - 1] {

@@ -1,6 +1,7 @@
 //! Sheets for the tests: whole ones, and whole ones damaged in every way the text speaks of.
 
 use crate::form::Wish;
+use crate::numbers::{FIRST_COLUMN, LAST_COLUMN, LAST_OFFSET};
 use crate::random::*;
 use crate::sheet::*;
 
@@ -364,13 +365,22 @@ pub fn damage(random: &mut Random, frames: &mut Vec<Vec<u8>>, how: Damage) {
             bytes[4..6].copy_from_slice(&s.to_be_bytes());
         }),
         Damage::FarOffset => rework(random, frames, is_header, |random, bytes| {
-            let d: i32 = random.pick(&[65_536, -65_536, i32::MAX, i32::MIN + 1]);
+            let past = LAST_OFFSET + 1;
+            let d: i32 = random.pick(&[past, -past, i32::MAX, i32::MIN + 1]);
             bytes[6..10].copy_from_slice(&d.to_be_bytes());
         }),
         Damage::BadColumn => rework(random, frames, is_columns, |random, bytes| {
             let columns = (bytes.len() - 3) / 4;
             let at = 3 + 4 * random.below(columns);
-            let column: i32 = random.pick(&[-1, 65_536, i32::MIN, i32::MAX, 0, 65_535]);
+            let column: i32 = random.pick(&[
+                FIRST_COLUMN - 1,
+                LAST_COLUMN + 1,
+                i32::MIN,
+                i32::MAX,
+                FIRST_COLUMN,
+                0,
+                LAST_COLUMN,
+            ]);
             bytes[at..at + 4].copy_from_slice(&column.to_be_bytes());
         }),
     }

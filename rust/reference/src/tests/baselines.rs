@@ -1,7 +1,7 @@
 //! The baselines give the very same numbers and leave the very same memory.
 
 use super::forms::random_form;
-use crate::numbers::Numbers;
+use crate::numbers::{Numbers, LAST_OFFSET};
 use crate::random::*;
 use crate::{baseline, form, halving, rows, rule, wires};
 
@@ -81,7 +81,7 @@ fn calls_that_fit() {
     let mut random = Random::new(62);
     for _ in 0..2_000 {
         let (a, b) = rows(&mut random, 24);
-        let d = offset(&mut random, &a, &b).clamp(-65_535, 65_535);
+        let d = offset(&mut random, &a, &b).clamp(-LAST_OFFSET, LAST_OFFSET);
         let s = rule::least(&a, &b, d).separation;
         same_on(&mut random, &a, &b, s, d);
     }
@@ -93,7 +93,7 @@ fn calls_on_long_rows() {
     for n in [500, 1_023, 1_024, 1_025, 2_047, 2_048] {
         for _ in 0..3 {
             let (a, b) = rows_of(&mut random, n);
-            let d = offset(&mut random, &a, &b).clamp(-65_535, 65_535);
+            let d = offset(&mut random, &a, &b).clamp(-LAST_OFFSET, LAST_OFFSET);
             let s = random.pick(&[0, 1, 17, 300]);
             same_on(&mut random, &a, &b, s, d);
             let answer = rule::least(&a, &b, d);

@@ -16,23 +16,26 @@ fn rows_by_number() {
     assert_eq!(accept_rows(&long, &long), Numbers::refused(LONG));
     // COLUMN before ORDER at one place; an earlier ORDER before a later COLUMN.
     assert_eq!(
-        accept_rows(&[5, -1], &[1, 2]),
+        accept_rows(&[5, -65_536], &[1, 2]),
         Numbers::refused_at(COLUMN, 1, 0)
     );
     assert_eq!(
-        accept_rows(&[5, 5, -1], &[1, 2, 3]),
+        accept_rows(&[5, 5, -65_536], &[1, 2, 3]),
         Numbers::refused_at(ORDER, 1, 0)
     );
     // The bottom row's last fault before the top row's first.
     assert_eq!(
-        accept_rows(&[1, 2, 2], &[-1, 2, 3]),
+        accept_rows(&[1, 2, 2], &[-65_536, 2, 3]),
         Numbers::refused_at(ORDER, 2, 0)
     );
     assert_eq!(
         accept_rows(&[1, 2, 3], &[1, 70_000, 3]),
         Numbers::refused_at(COLUMN, 4, 0)
     );
-    assert_eq!(accept_rows(&[0, 65_535], &[0, 1]), Numbers::default());
+    assert_eq!(
+        accept_rows(&[-65_535, 65_535], &[-1, 0]),
+        Numbers::default()
+    );
 }
 
 #[test]
@@ -44,16 +47,16 @@ fn order_of_all_checks() {
     let draw = |a: &[i32], b: &[i32], s, d, wire, buffer: &mut [i32]| {
         draw_wire(a, b, s, d, wire, buffer).refusal
     };
-    assert_eq!(draw(&bad.0, &bad.1, 9_999, 99_999, 9, &mut none), ORDER);
-    assert_eq!(draw(&good.0, &good.1, 9_999, 99_999, 9, &mut none), TRACKS);
-    assert_eq!(draw(&good.0, &good.1, 1, 99_999, 9, &mut none), OFFSET);
+    assert_eq!(draw(&bad.0, &bad.1, 9_999, 199_999, 9, &mut none), ORDER);
+    assert_eq!(draw(&good.0, &good.1, 9_999, 199_999, 9, &mut none), TRACKS);
+    assert_eq!(draw(&good.0, &good.1, 1, 199_999, 9, &mut none), OFFSET);
     assert_eq!(draw(&good.0, &good.1, 1, 50_000, 2, &mut none), WIRE);
     assert_eq!(draw(&good.0, &good.1, 1, 50_000, 1, &mut none), BUFFER);
     assert_eq!(draw(&good.0, &good.1, 1, 50_000, 1, &mut [0; 2]), NOFIT);
     assert_eq!(draw(&good.0, &good.1, 2, 50_000, 1, &mut [0; 3]), 0);
     let table = |s, d, buffer: &mut [i32]| draw_all(&good.0, &good.1, s, d, buffer).refusal;
-    assert_eq!(table(9_999, 99_999, &mut none), TRACKS);
-    assert_eq!(table(1, 99_999, &mut none), OFFSET);
+    assert_eq!(table(9_999, 199_999, &mut none), TRACKS);
+    assert_eq!(table(1, 199_999, &mut none), OFFSET);
     assert_eq!(table(1, 50_000, &mut [0; 3]), BUFFER);
     assert_eq!(table(1, 50_000, &mut [0; 4]), NOFIT);
     // The checker doesn't test NOFIT.
@@ -61,7 +64,7 @@ fn order_of_all_checks() {
     assert_eq!(check(1, 50_000, &[0; 3]), BUFFER);
     assert_eq!(check(1, 50_000, &[0; 4]), BADWIRE);
     assert_eq!(check(2_049, 50_000, &[0; 4]), TRACKS);
-    assert_eq!(check(1, 65_536, &[0; 4]), OFFSET);
+    assert_eq!(check(1, 131_071, &[0; 4]), OFFSET);
     // The best call has rows and a buffer only.
     assert_eq!(
         best_with_ladder(&bad.0, &bad.1, &mut []),
@@ -146,6 +149,34 @@ fn every_shape_of_row_is_accepted() {
     }
 }
 
+/// Rows left of the datum, across it and right of it, alone and in pairs, and with an end on either
+/// limit; offsets at both limits and one past each.
+#[test]
+fn rows_and_offsets_lie_everywhere() {
+    let mut random = Random::new(4);
+    let side = |row: &[i32]| match (row[0] < 0, row[row.len() - 1] > 0) {
+        (true, false) => 0,
+        (true, true) => 1,
+        _ => 2,
+    };
+    let (mut pairs, mut first, mut last) = ([[0; 3]; 3], 0, 0);
+    let mut offsets = std::collections::HashSet::new();
+    for _ in 0..4_000 {
+        let (a, b) = rows(&mut random, 20);
+        pairs[side(&a)][side(&b)] += 1;
+        for row in [&a, &b] {
+            first += (row[0] == FIRST_COLUMN) as usize;
+            last += (row[row.len() - 1] == LAST_COLUMN) as usize;
+        }
+        offsets.insert(offset(&mut random, &a, &b));
+    }
+    assert!(pairs.iter().flatten().all(|&count| count > 50), "{pairs:?}");
+    assert!(first > 50 && last > 50, "{first} {last}");
+    for limit in [LAST_OFFSET, LAST_OFFSET + 1] {
+        assert!(offsets.contains(&limit) && offsets.contains(&-limit));
+    }
+}
+
 #[test]
 fn every_damage_to_rows_is_refused() {
     let mut random = Random::new(3);
@@ -174,7 +205,7 @@ fn stretch_is_empty_when_there_is_no_misfit() {
         (vec![5, 4], vec![1, 2], 0, 9),
         (vec![1, 2], vec![1, 2], 0, 0),
         (vec![1, 2], vec![1, 2], 2_049, 9),
-        (vec![1, 2], vec![1, 2], 0, 70_000),
+        (vec![1, 2], vec![1, 2], 0, 131_071),
     ] {
         assert_eq!(stretch(&a, &b, s, d), Stretch::default());
         let part = stretch_part(&a, &b, s, d);

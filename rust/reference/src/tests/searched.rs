@@ -8,13 +8,13 @@ use crate::random::*;
 use crate::search::*;
 use crate::*;
 
-/// Every rising row of n columns from 0 to `last`.
-fn all_rows(n: usize, last: i32) -> Vec<Vec<i32>> {
+/// Every rising row of n columns from `first` to `last`.
+fn all_rows(n: usize, first: i32, last: i32) -> Vec<Vec<i32>> {
     let mut found = vec![vec![]];
     for _ in 0..n {
         let mut longer = Vec::new();
         for row in found {
-            for column in row.last().map_or(0, |before| before + 1)..=last {
+            for column in row.last().map_or(first, |before| before + 1)..=last {
                 let mut row = row.clone();
                 row.push(column);
                 longer.push(row);
@@ -25,10 +25,10 @@ fn all_rows(n: usize, last: i32) -> Vec<Vec<i32>> {
     found
 }
 
-/// A rising row of n columns from 0 to `last`.
-fn small_row(random: &mut Random, n: usize, last: i32) -> Vec<i32> {
+/// A rising row of n columns from `first` to `last`.
+fn small_row(random: &mut Random, n: usize, first: i32, last: i32) -> Vec<i32> {
     loop {
-        let mut row: Vec<i32> = (0..n).map(|_| random.between(0, last)).collect();
+        let mut row: Vec<i32> = (0..n).map(|_| random.between(first, last)).collect();
         row.sort();
         row.dedup();
         if row.len() == n {
@@ -41,8 +41,8 @@ fn small_row(random: &mut Random, n: usize, last: i32) -> Vec<i32> {
 fn every_smallest_jumper() {
     let (mut fitting, mut misfits) = (0, 0);
     for n in 1..=3 {
-        for a in all_rows(n, 4) {
-            for b in all_rows(n, 4) {
+        for a in all_rows(n, -2, 2) {
+            for b in all_rows(n, -2, 2) {
                 for s in 0..=3 {
                     for d in -4..=4 {
                         let fits = fit(&a, &b, s, d).refusal == 0;
@@ -66,7 +66,10 @@ fn thousands_of_small_jumpers() {
     let (mut fitting, mut misfits) = (0, 0);
     for _ in 0..6_000 {
         let n = 1 + random.below(4);
-        let (a, b) = (small_row(&mut random, n, 7), small_row(&mut random, n, 7));
+        let (a, b) = (
+            small_row(&mut random, n, -3, 4),
+            small_row(&mut random, n, -3, 4),
+        );
         let (s, d) = (random.below(4), random.between(-6, 6));
         let fits = fit(&a, &b, s, d).refusal == 0;
         assert_eq!(
@@ -84,7 +87,10 @@ fn some_larger_jumpers_around_their_least_separation() {
     let mut random = Random::new(12);
     for _ in 0..150 {
         let n = 4 + random.below(3);
-        let (a, b) = (small_row(&mut random, n, 12), small_row(&mut random, n, 12));
+        let (a, b) = (
+            small_row(&mut random, n, -6, 6),
+            small_row(&mut random, n, -6, 6),
+        );
         let d = random.between(-5, 5);
         let s = least(&a, &b, d).separation;
         if s <= 5 {
@@ -101,7 +107,7 @@ fn some_larger_jumpers_around_their_least_separation() {
 /// bottom pad i and top pad i + s.
 #[test]
 fn two_pads_prevent_it() {
-    let rows: Vec<Vec<i32>> = (1..=3).flat_map(|n| all_rows(n, 4)).collect();
+    let rows: Vec<Vec<i32>> = (1..=3).flat_map(|n| all_rows(n, -2, 2)).collect();
     let jumpers = || {
         rows.iter()
             .flat_map(|a| rows.iter().map(move |b| (a, b)))
@@ -141,7 +147,10 @@ fn two_searches_agree() {
     let (mut found, mut missing) = (0, 0);
     for _ in 0..1_500 {
         let n = 1 + random.below(3);
-        let (a, b) = (small_row(&mut random, n, 5), small_row(&mut random, n, 5));
+        let (a, b) = (
+            small_row(&mut random, n, -2, 3),
+            small_row(&mut random, n, -2, 3),
+        );
         let (s, d) = (random.below(4), random.between(-2, 2));
         match find_wiring(&a, &b, s, d) {
             Some(wires) => {
@@ -163,7 +172,10 @@ fn more_columns_change_nothing() {
     let mut random = Random::new(15);
     for _ in 0..1_000 {
         let n = 1 + random.below(4);
-        let (a, b) = (small_row(&mut random, n, 7), small_row(&mut random, n, 7));
+        let (a, b) = (
+            small_row(&mut random, n, -3, 4),
+            small_row(&mut random, n, -3, 4),
+        );
         let (s, d) = (random.below(4), random.between(-4, 4));
         let (first, last) = enough_columns(&a, &b, s, d);
         assert_eq!(
@@ -179,7 +191,10 @@ fn best_offsets_by_search() {
     let mut random = Random::new(14);
     for _ in 0..150 {
         let n = 1 + random.below(3);
-        let (a, b) = (small_row(&mut random, n, 6), small_row(&mut random, n, 6));
+        let (a, b) = (
+            small_row(&mut random, n, -3, 3),
+            small_row(&mut random, n, -3, 3),
+        );
         for s in 0..n.min(3) {
             let there: Vec<i32> = (-9..=9).filter(|&d| exists_wiring(&a, &b, s, d)).collect();
             let answer = range(&a, &b, s);

@@ -181,7 +181,7 @@ fn ready_then_skipping() {
     );
     let refused = vec![
         frame_10(7, 1, LEAST, 0),
-        frame_11(7, &[-1]),
+        frame_11(7, &[-65_536]),
         frame_12(7, &[1]),
     ];
     let sheet = [refused, vec![bad]].concat();
@@ -279,11 +279,11 @@ fn refused_wishes() {
     };
     let one_refusal =
         |separation, offset, a: &[i32], b: &[i32]| refusals(&line(separation, offset, a, b))[0].1;
-    assert_eq!(one_refusal(9_999, 99_999, &[1, 1], &[1, 70_000]), ORDER);
-    assert_eq!(one_refusal(9_999, 99_999, &[1, 2], &[1, 70_000]), COLUMN);
-    assert_eq!(one_refusal(9_999, 99_999, &[1, 2], &[1, 7]), TRACKS);
+    assert_eq!(one_refusal(9_999, 199_999, &[1, 1], &[1, 70_000]), ORDER);
+    assert_eq!(one_refusal(9_999, 199_999, &[1, 2], &[1, 70_000]), COLUMN);
+    assert_eq!(one_refusal(9_999, 199_999, &[1, 2], &[1, 7]), TRACKS);
     assert_eq!(one_refusal(0xFFFE, BEST, &[1, 2], &[1, 7]), TRACKS);
-    assert_eq!(one_refusal(2_048, 99_999, &[1, 2], &[1, 7]), OFFSET);
+    assert_eq!(one_refusal(2_048, 199_999, &[1, 2], &[1, 7]), OFFSET);
     assert_eq!(one_refusal(LEAST, i32::MIN + 1, &[1, 2], &[1, 7]), OFFSET);
     assert_eq!(one_refusal(1, 9, &[1, 2], &[1, 7]), NOFIT);
     assert_eq!(one_refusal(0, BEST, &[1, 2], &[1, 7]), NOOFFSET);
@@ -294,11 +294,11 @@ fn refused_wishes() {
     let answer = answer_sheet(&line(1, BEST, &[5], &[5]).concat());
     let numbers = Numbers {
         separation: 1,
-        lowest: -65_535,
-        highest: 65_535,
+        lowest: -131_070,
+        highest: 131_070,
         ..Numbers::default()
     };
-    let expected = [frame_20(1, &numbers), frame_21(1, 0, 0, 5, -65_530)].concat();
+    let expected = [frame_20(1, &numbers), frame_21(1, 0, 0, 5, -131_065)].concat();
     assert_eq!(answer, expected);
 }
 

@@ -27,7 +27,7 @@ fn k() {
     let (a, b) = K;
     assert_eq!(range(&a, &b, 0), with_offsets(0, 0, 0, 0));
     assert_eq!(range(&a, &b, 1), with_offsets(1, -4, 4, 0));
-    assert_eq!(range(&a, &b, 2), with_offsets(2, -65_535, 65_535, 0));
+    assert_eq!(range(&a, &b, 2), with_offsets(2, -131_070, 131_070, 0));
     assert_eq!(least(&a, &b, 5), at_offset(2, 5, 0, RIGHT));
     assert_eq!(fit(&a, &b, 1, -5), Numbers::no_fit(0, LEFT));
     assert_eq!(stretch_part(&a, &b, 1, -5), &a);
@@ -56,14 +56,32 @@ fn j() {
     assert!(legal_table(&a, &b, 2, 0, &table));
 }
 
+/// Request 105's own jumper, around a centre pin.
+#[test]
+fn c() {
+    let (a, b) = ([-1, 0, 1], [-2, 0, 2]);
+    assert_eq!(range(&a, &b, 0), Numbers::refused_at(NOOFFSET, 0, 2));
+    assert_eq!(range(&a, &b, 1), with_offsets(1, 0, 0, 0));
+    assert_eq!(range(&a, &b, 2), with_offsets(2, -1, 1, 0));
+    assert_eq!(range(&a, &b, 3), with_offsets(3, -131_070, 131_070, 0));
+    assert_eq!(best(&a, &b), with_offsets(1, 0, 0, 8));
+    assert_eq!(least(&a, &b, -131_070), at_offset(3, -131_070, 0, LEFT));
+    let mut table = [77; 6];
+    assert_eq!(draw_all(&a, &b, 1, 0, &mut table), Numbers::default());
+    assert_eq!(table, [-1, -2, 0, 0, 1, 2]);
+    assert!(exists_wiring(&a, &b, 1, 0) && !exists_wiring(&a, &b, 1, 1));
+}
+
 #[test]
 fn limits() {
     let row: Vec<i32> = (0..2_048).collect();
     assert_eq!(fit(&row, &row, 0, 0), at_offset(0, 0, 0, 0));
     let row: Vec<i32> = (0..2_049).collect();
     assert_eq!(fit(&row, &row, 0, 0), Numbers::refused(LONG));
-    assert_eq!(fit(&[65_535], &[65_535], 0, 0).refusal, 0);
-    for column in [65_536, -1] {
+    for column in [65_535, -1, -65_535] {
+        assert_eq!(fit(&[column], &[column], 0, 0).refusal, 0);
+    }
+    for column in [65_536, -65_536] {
         let refused = Numbers::refused_at(COLUMN, 0, 0);
         assert_eq!(fit(&[column], &[1], 0, 0), refused);
         let refused = Numbers::refused_at(COLUMN, 1, 0);
@@ -74,9 +92,12 @@ fn limits() {
     assert_eq!(accept_rows(&[1, 2], &[3, 3]).place, 3);
     assert_eq!(fit(&[1], &[1], 2_048, 9).refusal, 0);
     assert_eq!(fit(&[1], &[1], 2_049, 9), Numbers::refused(TRACKS));
-    assert_eq!(fit(&[1], &[1], 1, 65_535).refusal, 0);
-    assert_eq!(fit(&[1], &[1], 1, 65_536), Numbers::refused(OFFSET));
-    assert_eq!(fit(&[1], &[1], 1, -65_536), Numbers::refused(OFFSET));
+    for offset in [131_070, -131_070] {
+        assert_eq!(fit(&[1], &[1], 1, offset).refusal, 0);
+    }
+    for offset in [131_071, -131_071] {
+        assert_eq!(fit(&[1], &[1], 1, offset), Numbers::refused(OFFSET));
+    }
 }
 
 #[test]
@@ -126,8 +147,8 @@ fn trap_of_one_more_pair() {
 
 #[test]
 fn ranges_know_of_themselves() {
-    assert_eq!(Range::ALL.lowest, -65_535);
-    assert_eq!(Range::ALL.highest, 65_535);
+    assert_eq!(Range::ALL.lowest, -131_070);
+    assert_eq!(Range::ALL.highest, 131_070);
     assert!(!Range::ALL.is_empty());
     let (low, high) = (
         Range {
@@ -152,8 +173,9 @@ fn ranges_know_of_themselves() {
     assert!(low.meet(none).is_empty());
     assert_eq!(low.meet(Range::ALL), low);
     // Whatever the rows, a range at s < n lies within the accepted offsets.
-    let far = ([0, 65_535], [0, 65_535]);
+    let far = ([-65_535, 65_535], [-65_535, 65_535]);
     let found = offsets(&reduced(&far.0), &reduced(&far.1), 1);
     assert_eq!(found.meet(Range::ALL), found);
-    assert_eq!(offsets(&[0], &[65_535], 0).lowest, -65_535);
+    assert_eq!(offsets(&[-65_535], &[65_535], 0).lowest, -131_070);
+    assert_eq!(offsets(&[65_535], &[-65_535], 0).highest, 131_070);
 }
