@@ -33,21 +33,21 @@ impl Checked {
 }
 
 // How many columns aren't below the next one. There is no early exit, so many columns are compared at a time: most rows are sound, and this pass
-// is all they cost.
+// is all they cost. Those that are below it are counted, since "below" is what vector code can compare.
 fn falls(a: &[i32]) -> u32
     requires { ⌜ (0 < length (now a)) × (length (now a) ≤ maxPairs) ⌝ }
     ensures { λ r. ⌜ (r ≡ 0 → Rising (length (now (a .entry))) (pad (now (a .entry)))) ⌝ }
 {
     let last = a.len() - 1;
-    let mut n: u32 = 0;
+    let mut rises: u32 = 0;
     let mut i: usize = 0;
     while i < last {
-        if a[i + 1] <= a[i] {
-            n += 1;
+        if a[i] < a[i + 1] {
+            rises += 1;
         }
         i += 1;
     }
-    n
+    last as u32 - rises
 }
 
 // Whether a row rises from an accepted column to an accepted column.

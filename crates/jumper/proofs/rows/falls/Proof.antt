@@ -1,12 +1,12 @@
--- The invariant: n counts at most the columns passed, and where it is 0 each of them is below the next.
-use mathlib.Core.Path.{_≡_, sym, _∙_}
+-- The invariant: at most the columns passed are below the next, and where it is all of them, each is.
+use mathlib.Core.Path.{_≡_}
 use mathlib.Core.Logic.{⊎-elim}
 use Prim.Native.Nat.{ℕ, _+_, _-_, _≤_, _<_}
 use native.Mathlib.Omega.{arith}
 use borrow.Author.Count.{below-more}
 use lib.ListN.{length}
 use lib.Signed.{_<ℤ_}
-use Rattle.whole.proofs.Order.{false-le}
+use Rattle.whole.proofs.Order.{true-lt}
 use Rattle.whole.proofs.Machine.{back}
 use Rattle.wiring.specs.Wiring.{pad}
 use borrow.Author.Needs.{needs}
@@ -14,10 +14,10 @@ use Rattle.jumper.proofs.rows.falls.Statement.{statement}
 use Rattle.jumper.proofs.rows.falls.Tie as tie
 
 abbrev Inv-loop : tie.InvT-loop
-Inv-loop a last n₀ i₀ n i = (i ≤ last) × (last ≡ length a - 1) × (n ≤ i) × (n ≡ 0 → (k : ℕ) → k < i → pad a k <ℤ pad a (k + 1))
+Inv-loop a last rises₀ i₀ rises i = (i ≤ last) × (last ≡ length a - 1) × (rises ≤ i) × (rises ≡ i → (k : ℕ) → k < i → pad a k <ℤ pad a (k + 1))
 
 abbrev μ-loop : tie.MeasureT-loop
-μ-loop a last n₀ i₀ n i = last - i
+μ-loop a last rises₀ i₀ rises i = last - i
 
 sub-last : tie.Need-sub-last Inv-loop μ-loop
 sub-last c = search needs
@@ -25,14 +25,14 @@ sub-last c = search needs
 loop-holds : tie.Need-loop-holds Inv-loop μ-loop
 loop-holds c = (search needs, search needs, search needs, λ e k h. absurd (omega arith))
 
-add-if1 : tie.Need-add-if1 Inv-loop μ-loop
-add-if1 c = search needs
-
 mul-if1 : tie.Need-mul-if1 Inv-loop μ-loop
 mul-if1 c = search needs
 
 shared-slice-copy-out-if1 : tie.Need-shared-slice-copy-out-if1 Inv-loop μ-loop
 shared-slice-copy-out-if1 c = search needs
+
+add-if1 : tie.Need-add-if1 Inv-loop μ-loop
+add-if1 c = search needs
 
 mul-if1-2 : tie.Need-mul-if1-2 Inv-loop μ-loop
 mul-if1-2 c = search needs
@@ -40,8 +40,8 @@ mul-if1-2 c = search needs
 shared-slice-copy-out-if1-2 : tie.Need-shared-slice-copy-out-if1-2 Inv-loop μ-loop
 shared-slice-copy-out-if1-2 c = search needs
 
-add-n : tie.Need-add-n Inv-loop μ-loop
-add-n c = search needs
+add-rises : tie.Need-add-rises Inv-loop μ-loop
+add-rises c = search needs
 
 add-i : tie.Need-add-i Inv-loop μ-loop
 add-i c = search needs
@@ -54,14 +54,20 @@ loop-again c =
     let k = c .before .before .before .before in
     let a = k .before .args .a .now in
     ⊎-elim
-    (λ w. (search needs, search needs, omega (arith, w .1), λ e. absurd (omega (arith, w .1))))
     (λ w.
-    let t = rw (back (pad a (k .loop .i + 1)) (c .before .before .if12 .given), back (pad a (k .loop .i)) (c .before .if13 .given)) at (w .0 .left) in
-    (search needs, search needs, omega (arith, w .1), λ e. below-more _ _ (k .loop .inv .3 (sym (w .1) ∙ e)) (false-le _ _ t)))
+    let t = rw (back (pad a (k .loop .i)) (c .before .before .if12 .given), back (pad a (k .loop .i + 1)) (c .before .if13 .given)) at (w .0 .taken) in
+    (search needs, search needs, omega (arith, w .1), λ e. below-more _ _ (k .loop .inv .3 (omega (arith, w .1))) (true-lt _ _ t)))
+    (λ w. (search needs, search needs, omega (arith, w .1), λ e. absurd (omega (arith, w .1))))
     (c .if1 .came)
 
+cast-result : tie.Need-cast-result Inv-loop μ-loop
+cast-result c = search needs
+
+sub-result : tie.Need-sub-result Inv-loop μ-loop
+sub-result c = search needs
+
 returns : tie.Need-returns Inv-loop μ-loop
-returns c = λ e k h. c .before .loop .inv .3 e k (omega arith)
+returns c = λ e k h. c .before .loop .inv .3 (omega arith) k (omega arith)
 
 pub falls-spec : {M : Type 1} → statement M
 falls-spec =
@@ -71,13 +77,15 @@ falls-spec =
     μ-loop
     sub-last
     loop-holds
-    add-if1
     mul-if1
     shared-slice-copy-out-if1
+    add-if1
     mul-if1-2
     shared-slice-copy-out-if1-2
-    add-n
+    add-rises
     add-i
     loop-less
     loop-again
+    cast-result
+    sub-result
     returns)
