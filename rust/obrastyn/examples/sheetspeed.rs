@@ -46,14 +46,13 @@ fn main() {
         let path = std::env::temp_dir().join("obrastyn-sheet");
         let path = path.to_str().unwrap();
         File::create(path).unwrap().write_all(&bytes).unwrap();
-        let (mut x, mut y) = (Vec::new(), Vec::new());
-        for _ in 0..7 {
-            x.push(time(&ours, path));
-            y.push(time(&plain, path));
+        // The least of many runs, by turns: a whole process strays by half from run to run, and only upwards.
+        let (mut x, mut y) = (f64::INFINITY, f64::INFINITY);
+        for _ in 0..21 {
+            x = x.min(time(&ours, path));
+            y = y.min(time(&plain, path));
         }
-        x.sort_by(f64::total_cmp);
-        y.sort_by(f64::total_cmp);
-        println!("{name:44} {:12.3} {:12.3} {:7.2}", x[3], y[3], x[3] / y[3]);
+        println!("{name:44} {x:12.3} {y:12.3} {:7.2}", x / y);
         std::fs::remove_file(path).unwrap();
     }
 }
