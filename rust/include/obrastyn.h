@@ -6,7 +6,8 @@
 #include <stddef.h>
 #include <stdint.h>
 
-/* What is accepted. A column or an offset beyond its limits is refused (4 COLUMN, 7 OFFSET); the datum, column 0, may lie anywhere among the pads. */
+/* The limits of a pad's column and of an offset; beyond them is refusal 4 (COLUMN) or 7 (OFFSET). Pads may stand left of the datum (column 0), right of
+   it, or on both sides. A wire reaches as far as its pads with the offset: from column -196605 to 196605. */
 #define OBRASTYN_FIRST_COLUMN (-65535)
 #define OBRASTYN_LAST_COLUMN 65535
 #define OBRASTYN_LOWEST_OFFSET (-131070)
@@ -31,7 +32,7 @@ obrastyn_numbers obrastyn_rows(const int32_t *a, size_t an, const int32_t *b, si
 obrastyn_numbers obrastyn_fit(const int32_t *a, size_t an, const int32_t *b, size_t bn, size_t s, int32_t d);
 /* The least separation at offset d. Refusals 1 to 5, then 7. */
 obrastyn_numbers obrastyn_least(const int32_t *a, size_t an, const int32_t *b, size_t bn, int32_t d);
-/* The offsets that fit at separation s; where there are at least as many tracks as pairs, every accepted one. Refusals 1 to 6, then 11. */
+/* The offsets that fit at separation s. Where s is the number of pairs or more, all do, and the range is that of the accepted ones. Refusals 1 to 6, then 11. */
 obrastyn_numbers obrastyn_range(const int32_t *a, size_t an, const int32_t *b, size_t bn, size_t s);
 /* The best separation; the ladder goes to the front of the buffer (24 numbers are always enough). Refusals 1 to 5, then 9. */
 obrastyn_numbers obrastyn_best(const int32_t *a, size_t an, const int32_t *b, size_t bn, size_t *ladder, size_t room);

@@ -1,4 +1,4 @@
--- Rows that are not refused are the rows that 01 accepts, both ways; and what follows for them.
+-- Rows that are not refused are the accepted rows, both ways; and what follows for them.
 use mathlib.Core.Path.{_≡_, refl, ap}
 use mathlib.Core.Bool.{Bool, true, false}
 use mathlib.Core.List.{List, [], _∷_}

@@ -1,4 +1,4 @@
--- The checks 1 to 7 accept exactly what 01 accepts; and a check after another, by the first one's answer.
+-- The checks 1 to 7 refuse all but what is accepted, and nothing of that; and a check after another, by the first one's answer.
 use mathlib.Core.Path.{_≡_, sym, _∙_}
 use mathlib.Core.Bool.{Bool, true, false}
 use mathlib.Core.List.{List, [], _∷_}

@@ -1,8 +1,7 @@
 -- One step of `faultAfter` at a place of the row, by the code's tests.
-use mathlib.Core.Path.{_≡_, refl, sym, _∙_}
+use mathlib.Core.Path.{_≡_, refl}
 use mathlib.Core.Bool.{Bool, true, false}
 use mathlib.Core.List.{List}
-use mathlib.Core.Logic.{_↔_}
 use Prim.Native.Nat.{ℕ, _+_, _<_, _≤_}
 use native.Mathlib.Nat.{add-suc}
 use native.Mathlib.Numerals.{add-one}
@@ -10,20 +9,13 @@ use lib.ListN.{length, drop, drop-of-length-le}
 use lib.Seq.{drop-cons}
 use lib.IntN.{ℤ, pos}
 use lib.Signed.{ltZ, leZ}
-use Rattle.whole.proofs.Order.{untrue, false-lt, lt-false}
+use Rattle.whole.proofs.Order.{false-lt, lt-false}
 use Rattle.wiring.specs.Wiring.{pad}
 use Rattle.jumper.specs.Limits.{firstColumn, lastColumn, AcceptedColumn}
 use Rattle.jumper.specs.Rows.{pick, faultAfter}
 use Rattle.jumper.specs.declared.refusal.Refusal.the-variants.{Column, Order}
 use Rattle.jumper.specs.declared.rows.Checked.{Checked}
 use Rattle.jumper.specs.declared.rows.Checked.the-variants.{Accepted, Refused}
-
--- the two tests of a column say whether it is accepted
-pub below-out : (x : ℤ) → ltZ x firstColumn ≡ true → (true ≡ false) ↔ AcceptedColumn x
-below-out x h = ((λ e. untrue (sym e)), (λ c. sym h ∙ lt-false x firstColumn (c .low)))
-
-pub column-exactly : (x : ℤ) → ltZ x firstColumn ≡ false → (ltZ lastColumn x ≡ false) ↔ AcceptedColumn x
-column-exactly x h = ((λ e. record { low = false-lt x firstColumn h; high = false-lt lastColumn x e }), (λ c. lt-false lastColumn x (c .high)))
 
 -- a column out of range breaks one of the two tests
 outside : (x : ℤ) (r s : Checked) → (AcceptedColumn x → ⊥) → pick (ltZ x firstColumn) r (pick (ltZ lastColumn x) r s) ≡ r

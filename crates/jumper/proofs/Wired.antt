@@ -33,7 +33,7 @@ pub tracks-most : (n : ℕ) → n ≤ maxPairs → tracksFor n ≤ maxTracks
 unfolding tracksFor
 tracks-most n h = h
 
--- a difference of two columns is an accepted offset; so the ends of a range, which are such differences, need no clipping
+-- a difference of two columns is an accepted offset
 pub difference-accepted : {x y : ℤ} → AcceptedColumn x → AcceptedColumn y → AcceptedOffset (x -ℤ y)
 difference-accepted {x} {y} p q = record { low = omega (arithℤ, dif x y, p .low, q .high); high = omega (arithℤ, dif x y, p .high, q .low) }
 
@@ -41,7 +41,7 @@ difference-accepted {x} {y} p q = record { low = omega (arithℤ, dif x y, p .lo
 pub differences-reach : (firstColumn -ℤ lastColumn ≡ lowestOffset) × (lastColumn -ℤ firstColumn ≡ highestOffset)
 differences-reach = (refl, refl)
 
--- an accepted row leans from column to column
+-- x_k of an accepted row is within the limits of a column too; so the ends of a range, differences of an x and a y, need no clipping
 lean-accepted : {a : List ℤ} → AcceptedRow a → (k : ℕ) → k < length a → AcceptedColumn (leanOf a k)
 lean-accepted {a} h k l =
     record {

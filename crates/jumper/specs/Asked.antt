@@ -29,7 +29,7 @@ checkOffset a b d = orElse (checkRows a b) (offsetFault d)
 abbrev pub checkAsked : List ℤ → List ℤ → ℕ → ℤ → Checked
 checkAsked a b s d = orElse (checkTracks a b s) (offsetFault d)
 
--- rows and a separation, rows and an offset, and all of them, as 01 accepts them
+-- rows and a separation, rows and an offset, and all of them, as we accept them
 pub record AcceptedTracks (a b : List ℤ) (s : ℕ) : Type 0 where
   pub rows : AcceptedRows a b
   pub tracks : s ≤ maxTracks
@@ -43,7 +43,7 @@ pub record Asked (a b : List ℤ) (s : ℕ) (d : ℤ) : Type 0 where
   pub tracks : s ≤ maxTracks
   pub offset : AcceptedOffset d
 
--- What the checks promise: which refusal, and that there is none exactly for what 01 accepts.
+-- What the checks promise: which refusal, and that there is none exactly for what is accepted.
 pub record TracksCheck (a b : List ℤ) (s : ℕ) (r : Checked) : Type 0 where
   pub answer : r ≡ checkTracks a b s
   pub accepts : (checkedNumbers r .refusal ≡ 0) ↔ AcceptedTracks a b s

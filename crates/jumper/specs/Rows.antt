@@ -23,7 +23,7 @@ pub record AcceptedRow (a : List ℤ) : Type 0 where
   pub columns : (k : ℕ) → k < length a → AcceptedColumn (pad a k)
   pub rising : Rising (length a) (pad a)
 
--- two rows as 01 accepts them
+-- two rows as we accept them
 pub record AcceptedRows (a b : List ℤ) : Type 0 where
   pub equal : length a ≡ length b
   pub some : 1 ≤ length a
@@ -71,7 +71,7 @@ checkRows a b =
     (orElse (rowFault 0 a) (rowFault (length a) b))))
     (Refused Unequal)
 
--- What the row check promises: which refusal, and that there is none exactly for rows as 01 accepts them.
+-- What the row check promises: which refusal, and that there is none exactly for accepted rows.
 pub record RowCheck (a b : List ℤ) (r : Checked) : Type 0 where
   pub answer : r ≡ checkRows a b
   pub accepts : (checkedNumbers r .refusal ≡ 0) ↔ AcceptedRows a b

@@ -1,12 +1,11 @@
 // The row check (01, refusals 1 to 5).
 ghost use mathlib.Core.Path.{_≡_};
-ghost use mathlib.Core.Bool.{true, false};
-ghost use mathlib.Core.Logic.{_↔_};
+ghost use mathlib.Core.Bool.{true};
 ghost use Prim.Native.Nat.{_≤_, _<_};
 ghost use lib.ListN.{length};
 ghost use Rattle.wiring.specs.Wiring.{pad};
 ghost use Rattle.wiring.specs.Fit.{Rising};
-ghost use Rattle.jumper.specs.Limits.{maxPairs, AcceptedColumn};
+ghost use Rattle.jumper.specs.Limits.{maxPairs};
 ghost use Rattle.jumper.specs.Rows.{AcceptedRow, checkedNumbers, rowFault, RowCheck};
 use crate::limits::FIRST_COLUMN;
 use crate::limits::LAST_COLUMN;
@@ -68,18 +67,8 @@ fn is_faultless(a: &[i32]) -> bool
     true
 }
 
-// Whether a column is out of range.
-fn out_of_range(x: i32) -> bool
-    ensures { λ r. ⌜ (r ≡ false) ↔ AcceptedColumn x ⌝ }
-{
-    if x < FIRST_COLUMN {
-        return true;
-    }
-    LAST_COLUMN < x
-}
-
-// The search for the first fault of a row whose first column has the place `base`. A column above one that is in range, or above the one left of all, isn't
-// left of them: so a sound column costs two comparisons.
+// The search for the first fault of a row whose first column has the place `base`. `before` begins one left of the first column and is in range from then on;
+// so a column above it isn't left of the first, and a sound column costs two comparisons.
 fn seek_fault(a: &[i32], base: usize) -> Checked
     requires { ⌜ (base ≤ maxPairs) × (length (now a) ≤ maxPairs) ⌝ }
     ensures { λ r. ⌜ r ≡ rowFault base (now (a .entry)) ⌝ }
@@ -88,14 +77,14 @@ fn seek_fault(a: &[i32], base: usize) -> Checked
     let mut before: i32 = FIRST_COLUMN - 1;
     while i < a.len() {
         let x = a[i];
+        if LAST_COLUMN < x {
+            return Checked::Refused(Refusal::Column(base + i));
+        }
         if x <= before {
-            if out_of_range(x) {
+            if x < FIRST_COLUMN {
                 return Checked::Refused(Refusal::Column(base + i));
             }
             return Checked::Refused(Refusal::Order(base + i));
-        }
-        if LAST_COLUMN < x {
-            return Checked::Refused(Refusal::Column(base + i));
         }
         before = x;
         i += 1;

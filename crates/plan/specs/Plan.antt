@@ -58,7 +58,7 @@ planOf (Leastwise d) a b = leastPlan d (leastAnswer a b d)
 planOf (Range s) a b = rangePlan s (offsetsAnswer a b s)
 planOf Best a b = bestPlan a b
 
--- WHAT A WISH ASKS ABOUT: rows and numbers as 01 accepts them
+-- WHAT A WISH ASKS ABOUT: rows and numbers as we accept them
 abbrev pub Asks : Wish → (a b : List ℤ) → Type 0
 Asks (Fit s d) a b = Asked a b s d
 Asks (Leastwise d) a b = AcceptedShift a b d

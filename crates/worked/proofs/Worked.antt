@@ -1,4 +1,4 @@
--- 01's jumpers worked by hand: one test, computed over the whole table, and one law that turns it into an equation for each case.
+-- The jumpers worked by hand: one test, computed over the whole table, and one law that turns it into an equation for each case.
 use mathlib.Core.Path.{_≡_, refl, sym, ap, ap₂, subst}
 use mathlib.Core.Bool.{Bool, true, false, cond}
 use mathlib.Core.List.{List, [], _∷_}

@@ -34,7 +34,7 @@ K = rows (0 ∷ 5 ∷ []) (0 ∷ 5 ∷ [])
 abbrev pub S : Jumper
 S = rows (0 ∷ 1 ∷ 2 ∷ 3 ∷ []) (1 ∷ 2 ∷ 3 ∷ 4 ∷ [])
 
--- 02, #105: C has its pads around a centre pin, and is worked out at the head of jumper's Limits.antt; L is one pair on the first column
+-- 02, #105: C has its pads around a centre pin, L is one pair on the first column; both are worked out at the head of jumper's Limits.antt
 abbrev pub C : Jumper
 C = record { bottom = negsuc 0 ∷ pos 0 ∷ pos 1 ∷ []; top = negsuc 1 ∷ pos 0 ∷ pos 2 ∷ [] }
 
@@ -126,9 +126,9 @@ table =
     -- C best: 1, offsets 0..0, count 8; drawn there: -1,-2 / 0,0 / 1,2
     ∷ case (best C) (found 1 (pos 0) (pos 0) 8)
     ∷ case (drawnAt C 1 (pos 0) (whole (lent 7))) (negsuc 0 ∷ negsuc 1 ∷ pos 0 ∷ pos 0 ∷ pos 1 ∷ pos 2 ∷ pos 9 ∷ [])
-    -- C at the lowest offset: least 3, at 2 pair 0 is too far LEFT
+    -- C at the lowest offset: least 3; at 2 pair 0 prevents it, LEFT
     ∷ case (leastAt C (negsuc 131069)) (least 3 0 2)
-    -- L drawn at (1, -131,070): -65,535,-196,605
+    -- L drawn at (1, -131,070): column -65,535, then -196,605
     ∷ case (drawnAt L 1 (negsuc 131069) (whole (lent 2))) (negsuc 65534 ∷ negsuc 196604 ∷ [])
     ∷ []
 

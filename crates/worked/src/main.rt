@@ -48,8 +48,8 @@ fn show_witness(name: &[u8], n: Numbers) {
     put(b"\n");
 }
 
-// A row with a pad on each of the first columns.
-fn first_columns() -> [i32; 2049]
+// A row of pads side by side, from the datum on.
+fn side_by_side() -> [i32; 2049]
     ensures { λ r. ⌜ 2049 ≡ length r ⌝ }
 {
     let mut row = [0i32; 2049];
@@ -63,7 +63,7 @@ fn first_columns() -> [i32; 2049]
 
 // "2,048 pairs pass, 2,049 LONG." With every top pad one column to the right, 2,048 pairs need as many tracks.
 fn pairs() {
-    let row = first_columns();
+    let row = side_by_side();
     let most = &row[..2048];
     show_place(b"2,048 pairs", fit(most, most, 0, 0).numbers());
     show_witness(b"2,048 pairs, offset 1", least_at(most, most, 1).numbers());

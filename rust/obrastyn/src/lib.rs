@@ -16,7 +16,7 @@
 //! assert_eq!(obrastyn::check(&below, &above, 2, 0, &route).refusal, 0);
 //! ```
 
-/// The least column of a pad that is accepted. The datum, column 0, may lie anywhere among the pads.
+/// The least column that a pad may stand on. Pads may stand left of the datum (column 0), right of it, or on both sides.
 ///
 /// ```
 /// use obrastyn::{FIRST_COLUMN, LAST_COLUMN, LOWEST_OFFSET};
@@ -27,10 +27,10 @@
 /// ```
 pub const FIRST_COLUMN: i32 = -65535;
 
-/// The greatest column of a pad that is accepted.
+/// The greatest column that a pad may stand on.
 pub const LAST_COLUMN: i32 = 65535;
 
-/// The least offset that is accepted.
+/// The least offset that is accepted. A wire reaches as far as its pads with the offset: from column -196,605 to 196,605.
 pub const LOWEST_OFFSET: i32 = -131070;
 
 /// The greatest offset that is accepted.
@@ -65,10 +65,10 @@ pub struct Place {
     pub pads: usize,
 }
 
-/// The mark for "least" as a line's separation.
+/// The mark for "least" as a line's separation; it is no separation that is accepted.
 pub const LEAST: u32 = 65535;
 
-/// The mark for "best" as a line's offset.
+/// The mark for "best" as a line's offset; it is no offset that is accepted.
 pub const BEST: i32 = i32::MIN;
 
 /// What a line orders: where its pads start in each pool, how many pairs they are, and its wish.
@@ -128,7 +128,8 @@ pub fn least(a: &[i32], b: &[i32], d: i32) -> Numbers {
     unsafe { raw::obrastyn_least(a.as_ptr(), a.len(), b.as_ptr(), b.len(), d) }
 }
 
-/// The offsets at which a legal wiring exists at separation `s`, with at least as many tracks as pairs every accepted one: refusals 1 to 6, then NOOFFSET.
+/// The offsets at which a legal wiring exists at separation `s`. Where `s` is the number of pairs or more, all do, and the range is that of the
+/// accepted ones. Refusals 1 to 6, then NOOFFSET.
 pub fn range(a: &[i32], b: &[i32], s: usize) -> Numbers {
     unsafe { raw::obrastyn_range(a.as_ptr(), a.len(), b.as_ptr(), b.len(), s) }
 }

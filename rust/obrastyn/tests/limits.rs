@@ -26,7 +26,7 @@ fn columns() {
     assert_eq!(rows(&[FIRST_COLUMN, FIRST_COLUMN], &[0, 1]), Numbers { refusal: 5, place: 1, ..Numbers::default() });
 }
 
-/// Either limit passes; one past it is OFFSET, in every call that takes one.
+/// Either limit passes; one past it is OFFSET, in every call that takes one, and the stretch at fault is empty then.
 #[test]
 fn offsets() {
     let (a, b) = ([-3, 4], [-5, 6]);
@@ -34,14 +34,21 @@ fn offsets() {
         let mut table = [0; 6];
         let one = draw_wire(&a, &b, 2, d, 1, &mut table[..3]).refusal;
         let all = draw_all(&a, &b, 2, d, &mut table).refusal;
-        [fit(&a, &b, 2, d).refusal, least(&a, &b, d).refusal, one, all, check(&a, &b, 2, d, &table).refusal]
+        let order = Order { pairs: 2, separation: LEAST, offset: d, ..Order::default() };
+        let mut line = [Line { order, ..Line::default() }];
+        let answered = answer(line[0], &a, &b).answer.refusal;
+        assert_eq!((answer_line(&mut line, 0, &a, &b), line[0].answer.refusal), (0, answered));
+        assert!(stretch(&a, &b, 2, d).is_empty());
+        [fit(&a, &b, 2, d).refusal, least(&a, &b, d).refusal, one, all, check(&a, &b, 2, d, &table).refusal, answered]
     };
     for d in [LOWEST_OFFSET, HIGHEST_OFFSET] {
-        assert_eq!(calls(d), [0; 5]);
+        assert_eq!(calls(d), [0; 6]);
     }
-    for d in [LOWEST_OFFSET - 1, HIGHEST_OFFSET + 1, i32::MIN, i32::MAX] {
-        assert_eq!(calls(d), [7; 5]);
+    for d in [LOWEST_OFFSET - 1, HIGHEST_OFFSET + 1, i32::MIN + 1, i32::MAX] {
+        assert_eq!(calls(d), [7; 6]);
     }
+    // the mark of a record is no offset for a call
+    assert_eq!((fit(&a, &b, 2, BEST).refusal, least(&a, &b, BEST).refusal), (7, 7));
 }
 
 /// Three pads around a centre pin.
@@ -84,9 +91,9 @@ fn moved_along() {
         let n = 1 + random.below(12);
         let (a, b) = rows_of(&mut random, n);
         let (s, d) = (separation(&mut random, n), offset(&mut random, &a, &b));
-        let least_room = a[0].min(b[0]) - FIRST_COLUMN;
-        let most_room = LAST_COLUMN - a[n - 1].max(b[n - 1]);
-        let by = random.between(-least_room, most_room);
+        let room_left = a[0].min(b[0]) - FIRST_COLUMN;
+        let room_right = LAST_COLUMN - a[n - 1].max(b[n - 1]);
+        let by = random.between(-room_left, room_right);
         let moved = |row: &[i32]| row.iter().map(|column| column + by).collect::<Vec<i32>>();
         let (p, q) = (moved(&a), moved(&b));
         let what = || format!("round {round}: {a:?} {b:?} s {s} d {d} by {by}");

@@ -56,7 +56,7 @@ pub enum Shape {
     Loose,
     /// Packed blocks with wide gaps between.
     Blocks,
-    /// Gaps as wide as the room allows.
+    /// Gaps up to as wide as the room allows.
     Wide,
 }
 
@@ -75,8 +75,8 @@ pub fn row(random: &mut Random, n: usize, shape: Shape) -> Vec<i32> {
     if n == 0 {
         return Vec::new();
     }
-    // No gap is wider than this, so that n of them have room.
-    let widest = ((LAST_COLUMN - FIRST_COLUMN) / n as i32).max(1);
+    // No gap is wider than this, so that all of them have room.
+    let widest = (LAST_COLUMN - FIRST_COLUMN) / (n as i32 - 1).max(1);
     let mut row = vec![0];
     for _ in 1..n {
         let gap = match shape {
@@ -88,6 +88,10 @@ pub fn row(random: &mut Random, n: usize, shape: Shape) -> Vec<i32> {
             Shape::Wide => random.between(1, widest),
         };
         row.push(row[row.len() - 1] + gap.min(widest));
+    }
+    // Now and then from the first column to the last.
+    if n > 1 && matches!(shape, Shape::Wide) && random.once_in(3) {
+        row[n - 1] = LAST_COLUMN - FIRST_COLUMN;
     }
     let width = row[n - 1];
     let start = match random.below(9) {

@@ -6,14 +6,14 @@ use borrow.Author.Needs.{needs}
 use Rattle.worked.proofs.pairs.Statement.{statement}
 use Rattle.worked.proofs.pairs.Tie as tie
 
-first-columns-requires : tie.Need-first-columns-requires
-first-columns-requires c κs = search needs
+side-by-side-requires : tie.Need-side-by-side-requires
+side-by-side-requires c κs = search needs
 
 array-share-prefix-row : tie.Need-array-share-prefix-row
 array-share-prefix-row c = search needs
 
 slice-aggregate-most : tie.Need-slice-aggregate-most
-slice-aggregate-most c = let f = c .before .first-columns in sym (length-take-le 2048 (f .result) (omega (arith, f .ensures)))
+slice-aggregate-most c = let f = c .before .side-by-side in sym (length-take-le 2048 (f .result) (omega (arith, f .ensures)))
 
 slice-aggregate-show-place : tie.Need-slice-aggregate-show-place
 slice-aggregate-show-place c = search needs
@@ -64,7 +64,7 @@ pub pairs-spec : {M : Type 1} → statement M
 pairs-spec =
     tie.close
     (tie.spec
-    first-columns-requires
+    side-by-side-requires
     array-share-prefix-row
     slice-aggregate-most
     slice-aggregate-show-place

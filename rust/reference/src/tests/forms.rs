@@ -66,7 +66,7 @@ fn lines_of_a_form() {
         line(4, 6, 0, None, None),
         line(4, 7, 0, None, None),
         line(usize::MAX, 0, usize::MAX, None, None),
-        line(3, 0, 2, Some(9_999), Some(99_999)),
+        line(3, 0, 2, Some(9_999), Some(LAST_OFFSET + 1)),
     ];
     let before = table;
     assert_eq!(

@@ -47,16 +47,25 @@ fn order_of_all_checks() {
     let draw = |a: &[i32], b: &[i32], s, d, wire, buffer: &mut [i32]| {
         draw_wire(a, b, s, d, wire, buffer).refusal
     };
-    assert_eq!(draw(&bad.0, &bad.1, 9_999, 199_999, 9, &mut none), ORDER);
-    assert_eq!(draw(&good.0, &good.1, 9_999, 199_999, 9, &mut none), TRACKS);
-    assert_eq!(draw(&good.0, &good.1, 1, 199_999, 9, &mut none), OFFSET);
+    assert_eq!(
+        draw(&bad.0, &bad.1, 9_999, LAST_OFFSET + 1, 9, &mut none),
+        ORDER
+    );
+    assert_eq!(
+        draw(&good.0, &good.1, 9_999, LAST_OFFSET + 1, 9, &mut none),
+        TRACKS
+    );
+    assert_eq!(
+        draw(&good.0, &good.1, 1, LAST_OFFSET + 1, 9, &mut none),
+        OFFSET
+    );
     assert_eq!(draw(&good.0, &good.1, 1, 50_000, 2, &mut none), WIRE);
     assert_eq!(draw(&good.0, &good.1, 1, 50_000, 1, &mut none), BUFFER);
     assert_eq!(draw(&good.0, &good.1, 1, 50_000, 1, &mut [0; 2]), NOFIT);
     assert_eq!(draw(&good.0, &good.1, 2, 50_000, 1, &mut [0; 3]), 0);
     let table = |s, d, buffer: &mut [i32]| draw_all(&good.0, &good.1, s, d, buffer).refusal;
-    assert_eq!(table(9_999, 199_999, &mut none), TRACKS);
-    assert_eq!(table(1, 199_999, &mut none), OFFSET);
+    assert_eq!(table(9_999, LAST_OFFSET + 1, &mut none), TRACKS);
+    assert_eq!(table(1, LAST_OFFSET + 1, &mut none), OFFSET);
     assert_eq!(table(1, 50_000, &mut [0; 3]), BUFFER);
     assert_eq!(table(1, 50_000, &mut [0; 4]), NOFIT);
     // The checker doesn't test NOFIT.
@@ -149,8 +158,8 @@ fn every_shape_of_row_is_accepted() {
     }
 }
 
-/// Rows left of the datum, across it and right of it, alone and in pairs, and with an end on either
-/// limit; offsets at both limits and one past each.
+/// Rows left of the datum, across it and right of it, against each other, with an end on either
+/// limit or on both; offsets at both limits and one past each.
 #[test]
 fn rows_and_offsets_lie_everywhere() {
     let mut random = Random::new(4);
@@ -159,7 +168,7 @@ fn rows_and_offsets_lie_everywhere() {
         (true, true) => 1,
         _ => 2,
     };
-    let (mut pairs, mut first, mut last) = ([[0; 3]; 3], 0, 0);
+    let (mut pairs, mut first, mut last, mut whole) = ([[0; 3]; 3], 0, 0, 0);
     let mut offsets = std::collections::HashSet::new();
     for _ in 0..4_000 {
         let (a, b) = rows(&mut random, 20);
@@ -167,11 +176,12 @@ fn rows_and_offsets_lie_everywhere() {
         for row in [&a, &b] {
             first += (row[0] == FIRST_COLUMN) as usize;
             last += (row[row.len() - 1] == LAST_COLUMN) as usize;
+            whole += (row[row.len() - 1] - row[0] == LAST_COLUMN - FIRST_COLUMN) as usize;
         }
         offsets.insert(offset(&mut random, &a, &b));
     }
     assert!(pairs.iter().flatten().all(|&count| count > 50), "{pairs:?}");
-    assert!(first > 50 && last > 50, "{first} {last}");
+    assert!(first.min(last).min(whole) > 50, "{first} {last} {whole}");
     for limit in [LAST_OFFSET, LAST_OFFSET + 1] {
         assert!(offsets.contains(&limit) && offsets.contains(&-limit));
     }

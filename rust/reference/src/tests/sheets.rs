@@ -279,11 +279,23 @@ fn refused_wishes() {
     };
     let one_refusal =
         |separation, offset, a: &[i32], b: &[i32]| refusals(&line(separation, offset, a, b))[0].1;
-    assert_eq!(one_refusal(9_999, 199_999, &[1, 1], &[1, 70_000]), ORDER);
-    assert_eq!(one_refusal(9_999, 199_999, &[1, 2], &[1, 70_000]), COLUMN);
-    assert_eq!(one_refusal(9_999, 199_999, &[1, 2], &[1, 7]), TRACKS);
+    assert_eq!(
+        one_refusal(9_999, LAST_OFFSET + 1, &[1, 1], &[1, 70_000]),
+        ORDER
+    );
+    assert_eq!(
+        one_refusal(9_999, LAST_OFFSET + 1, &[1, 2], &[1, 70_000]),
+        COLUMN
+    );
+    assert_eq!(
+        one_refusal(9_999, LAST_OFFSET + 1, &[1, 2], &[1, 7]),
+        TRACKS
+    );
     assert_eq!(one_refusal(0xFFFE, BEST, &[1, 2], &[1, 7]), TRACKS);
-    assert_eq!(one_refusal(2_048, 199_999, &[1, 2], &[1, 7]), OFFSET);
+    assert_eq!(
+        one_refusal(2_048, LAST_OFFSET + 1, &[1, 2], &[1, 7]),
+        OFFSET
+    );
     assert_eq!(one_refusal(LEAST, i32::MIN + 1, &[1, 2], &[1, 7]), OFFSET);
     assert_eq!(one_refusal(1, 9, &[1, 2], &[1, 7]), NOFIT);
     assert_eq!(one_refusal(0, BEST, &[1, 2], &[1, 7]), NOOFFSET);

@@ -5,11 +5,13 @@ use crate::random::*;
 use crate::rule::*;
 use crate::wires::*;
 
-/// Rows whose columns lie near each other, so that walking every point is cheap.
+/// Rows whose columns lie near each other and near the datum, on either side of it or on both, so
+/// that walking every point is cheap.
 fn near_rows(random: &mut Random, most: usize) -> (Vec<i32>, Vec<i32>) {
     let n = 1 + random.below(most);
+    let start = -random.between(0, 3 * n as i32);
     let mut row = || -> Vec<i32> {
-        let mut column = random.between(0, 6);
+        let mut column = start + random.between(0, 6);
         (0..n)
             .map(|_| {
                 column += random.pick(&[1, 1, 1, 2, 3, 7]);
@@ -90,7 +92,7 @@ fn checker_equals_legality_on_mutated_tables() {
             let place = random.below(table.len());
             match random.below(4) {
                 0 => table[place] += random.pick(&[-1, 1]),
-                1 => table[place] = random.between(-10, 40),
+                1 => table[place] = random.between(-30, 40),
                 2 => {
                     let other = random.below(table.len());
                     table.swap(place, other);
@@ -110,16 +112,16 @@ fn checker_equals_legality_on_mutated_tables() {
 
 #[test]
 fn checker_equals_legality_on_all_small_tables() {
-    // Two wires on two tracks and the top: all tables with columns 0 to 5.
+    // Two wires on two tracks and the top: all tables with columns -3 to 2.
     for (a, b, d) in [
-        ([1, 3], [2, 4], 0),
-        ([1, 2], [1, 2], 1),
-        ([2, 4], [3, 4], -2),
+        ([-2, 0], [-1, 1], 0),
+        ([-2, -1], [-2, -1], 1),
+        ([-1, 1], [0, 1], -2),
     ] {
         let mut legal_ones = 0;
         for code in 0..6usize.pow(6) {
             let table: Vec<i32> = (0..6)
-                .map(|place| (code / 6usize.pow(place) % 6) as i32)
+                .map(|place| (code / 6usize.pow(place) % 6) as i32 - 3)
                 .collect();
             let legal = legal_table(&a, &b, 2, d, &table);
             assert_eq!(check(&a, &b, 2, d, &table).refusal == 0, legal);

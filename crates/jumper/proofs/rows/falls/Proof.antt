@@ -1,4 +1,4 @@
--- The invariant: at most the columns passed are below the next, and where it is all of them, each is.
+-- The invariant: `rises` is at most the number of columns passed, and where it is that number, each of them is below the next.
 use mathlib.Core.Path.{_≡_}
 use mathlib.Core.Logic.{⊎-elim}
 use Prim.Native.Nat.{ℕ, _+_, _-_, _≤_, _<_}
@@ -14,7 +14,8 @@ use Rattle.jumper.proofs.rows.falls.Statement.{statement}
 use Rattle.jumper.proofs.rows.falls.Tie as tie
 
 abbrev Inv-loop : tie.InvT-loop
-Inv-loop a last rises₀ i₀ rises i = (i ≤ last) × (last ≡ length a - 1) × (rises ≤ i) × (rises ≡ i → (k : ℕ) → k < i → pad a k <ℤ pad a (k + 1))
+Inv-loop a last rises₀ i₀ rises i =
+    (i ≤ last) × (last ≡ length a - 1) × (rises ≤ i) × (rises ≡ i → (k : ℕ) → k < i → pad a k <ℤ pad a (k + 1))
 
 abbrev μ-loop : tie.MeasureT-loop
 μ-loop a last rises₀ i₀ rises i = last - i

@@ -1,5 +1,5 @@
--- The loop's invariant: the row's fault is the fault of what is left, after the column before it; and that column isn't left of the one left of all, so what is
--- above it isn't left of the first.
+-- The loop's invariant: the row's fault is the fault of what is left, after the column before it; and that column is at least the one left of the first, so
+-- a column above it isn't left of the first.
 use mathlib.Core.Path.{_≡_, sym, _∙_}
 use mathlib.Core.Bool.{true, false}
 use mathlib.Core.List.{List}
@@ -37,24 +37,24 @@ Read = tie.After-x Inv-loop μ-loop
 abbrev row : Read → List ℤ
 row r = r .before .before .before .args .a .now
 
+abbrev base : Read → ℕ
+base r = r .before .before .before .args .base
+
 abbrev place : Read → ℕ
 place r = r .before .before .loop .i
 
 abbrev here : Read → ℤ
 here r = pad (row r) (place r)
 
-abbrev before : Read → ℤ
-before r = toZ w32 (r .before .before .loop .before)
-
-abbrev base : Read → ℕ
-base r = r .before .before .before .args .base
+abbrev previous : Read → ℤ
+previous r = toZ w32 (r .before .before .loop .before)
 
 read : (r : Read) → toZ w32 (ofZ w32 (here r)) ≡ here r
 read r = back (here r) (r .x .given)
 
 -- the answer where that column is out of range
 out : (r : Read) → (AcceptedColumn (here r) → ⊥) → Refused (Column (base r + place r)) ≡ rowFault (base r) (row r)
-out r h = sym (r .before .before .loop .inv .2 ∙ column (row r) (before r) (base r) (place r) (r .before .loop-test .taken) h)
+out r h = sym (r .before .before .loop .inv .2 ∙ column (row r) (previous r) (base r) (place r) (r .before .loop-test .taken) h)
 
 sub-before : tie.Need-sub-before Inv-loop μ-loop
 sub-before c = search needs
@@ -68,17 +68,14 @@ mul-x c = search needs
 shared-slice-copy-out-x : tie.Need-shared-slice-copy-out-x Inv-loop μ-loop
 shared-slice-copy-out-x c = search needs
 
-out-of-range-requires : tie.Need-out-of-range-requires Inv-loop μ-loop
-out-of-range-requires c κs = search needs
-
-add-t11 : tie.Need-add-t11 Inv-loop μ-loop
-add-t11 c = search needs
+add-t10 : tie.Need-add-t10 Inv-loop μ-loop
+add-t10 c = search needs
 
 returns : tie.Need-returns Inv-loop μ-loop
 returns c =
-    let r = c .before .before .before in
-    let exactly = rw (read r) at (c .before .out-of-range .ensures) in
-    out r (λ k. untrue (sym (exactly .1 k) ∙ c .if2 .taken))
+    let r = c .before in
+    let right : ltZ lastColumn (here r) ≡ true = rw (read r) at (c .if1 .taken) in
+    out r (λ accepted. untrue (sym (lt-false lastColumn (here r) (accepted .high)) ∙ right))
 
 add-t13 : tie.Need-add-t13 Inv-loop μ-loop
 add-t13 c = search needs
@@ -86,18 +83,20 @@ add-t13 c = search needs
 returns-2 : tie.Need-returns-2 Inv-loop μ-loop
 returns-2 c =
     let r = c .before .before .before in
-    let exactly = rw (read r) at (c .before .out-of-range .ensures) in
-    let not-above : leZ (here r) (before r) ≡ true = rw (read r) at (c .before .before .if1 .taken) in
-    sym (r .before .before .loop .inv .2 ∙ order (row r) (before r) (base r) (place r) (r .before .loop-test .taken) (exactly .0 (c .if2 .left)) not-above)
+    let left : ltZ (here r) firstColumn ≡ true = rw (read r) at (c .if3 .taken) in
+    out r (λ accepted. untrue (sym (lt-false (here r) firstColumn (accepted .low)) ∙ left))
 
 add-t15 : tie.Need-add-t15 Inv-loop μ-loop
 add-t15 c = search needs
 
 returns-3 : tie.Need-returns-3 Inv-loop μ-loop
 returns-3 c =
-    let r = c .before .before in
-    let right : ltZ lastColumn (here r) ≡ true = rw (read r) at (c .if3 .taken) in
-    out r (λ k. untrue (sym (lt-false lastColumn (here r) (k .high)) ∙ right))
+    let r = c .before .before .before in
+    let not-right : ltZ lastColumn (here r) ≡ false = rw (read r) at (c .before .before .if1 .left) in
+    let not-above : leZ (here r) (previous r) ≡ true = rw (read r) at (c .before .if2 .taken) in
+    let not-left : ltZ (here r) firstColumn ≡ false = rw (read r) at (c .if3 .left) in
+    let accepted : AcceptedColumn (here r) = record { low = false-lt (here r) firstColumn not-left; high = false-lt lastColumn (here r) not-right } in
+    sym (r .before .before .loop .inv .2 ∙ order (row r) (previous r) (base r) (place r) (r .before .loop-test .taken) accepted not-above)
 
 add-i : tie.Need-add-i Inv-loop μ-loop
 add-i c = search needs
@@ -108,14 +107,13 @@ loop-less c = search needs
 loop-again : tie.Need-loop-again Inv-loop μ-loop
 loop-again c =
     let r = c .before .before in
-    let x = here r in
-    let above : leZ x (before r) ≡ false = rw (read r) at (c .before .if1 .left) in
-    let not-right : ltZ lastColumn x ≡ false = rw (read r) at (c .if3 .left) in
-    let low : firstColumn ≤ℤ x = omega (arithℤ, false-le x (before r) above, r .before .before .loop .inv .1) in
-    let k : AcceptedColumn x = record { low = low; high = false-lt lastColumn x not-right } in (
+    let not-right : ltZ lastColumn (here r) ≡ false = rw (read r) at (c .before .if1 .left) in
+    let above : leZ (here r) (previous r) ≡ false = rw (read r) at (c .if2 .left) in
+    let low : firstColumn ≤ℤ here r = omega (arithℤ, false-le (here r) (previous r) above, r .before .before .loop .inv .1) in
+    let accepted : AcceptedColumn (here r) = record { low = low; high = false-lt lastColumn (here r) not-right } in (
       search needs,
-      rw (read r) (omega (arithℤ, k .low)),
-      rw (read r) (r .before .before .loop .inv .2 ∙ next (row r) (before r) (base r) (place r) (r .before .loop-test .taken) k above),
+      rw (read r) (omega (arithℤ, low)),
+      rw (read r) (r .before .before .loop .inv .2 ∙ next (row r) (previous r) (base r) (place r) (r .before .loop-test .taken) accepted above),
     )
 
 returns-4 : tie.Need-returns-4 Inv-loop μ-loop
@@ -131,8 +129,7 @@ seek-fault-spec =
     loop-holds
     mul-x
     shared-slice-copy-out-x
-    out-of-range-requires
-    add-t11
+    add-t10
     returns
     add-t13
     returns-2

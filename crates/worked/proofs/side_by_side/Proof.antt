@@ -3,8 +3,8 @@ use mathlib.Core.Path.{_≡_, refl}
 use Prim.Native.Nat.{_-_}
 use lib.ListN.{length, length-set}
 use borrow.Author.Needs.{needs}
-use Rattle.worked.proofs.first_columns.Statement.{statement}
-use Rattle.worked.proofs.first_columns.Tie as tie
+use Rattle.worked.proofs.side_by_side.Statement.{statement}
+use Rattle.worked.proofs.side_by_side.Tie as tie
 
 abbrev Inv-loop : tie.InvT-loop
 Inv-loop row₀ i₀ row i = 2049 ≡ length row
@@ -36,8 +36,8 @@ loop-again c = simp length-set (c .before .loop .inv)
 returns : tie.Need-returns Inv-loop μ-loop
 returns c = search needs
 
-pub first-columns-spec : {M : Type 1} → statement M
-first-columns-spec =
+pub side-by-side-spec : {M : Type 1} → statement M
+side-by-side-spec =
     tie.close
     (tie.spec
     Inv-loop
