@@ -1,4 +1,4 @@
--- The checks 1 to 7 refuse all but what is accepted, and nothing of that; and a check after another, by the first one's answer.
+-- The checks 1 to 7 let through exactly what is accepted; and a check after another, by the first one's answer.
 use mathlib.Core.Path.{_≡_, sym, _∙_}
 use mathlib.Core.Bool.{Bool, true, false}
 use mathlib.Core.List.{List, [], _∷_}
@@ -106,10 +106,16 @@ early-rows a b =
     (omega arith)
 
 early-offset : (d : ℤ) → Early 7 (offsetFault d)
-early-offset d = early-pick 7 (ltZ d lowestOffset) (Refused Offset) (pick (ltZ highestOffset d) (Refused Offset) Accepted) (omega arith) (early-pick 7 (ltZ highestOffset d) (Refused Offset) Accepted (omega arith) tt)
+early-offset d =
+    let above = pick (ltZ highestOffset d) (Refused Offset) Accepted in
+    early-pick 7 (ltZ d lowestOffset) (Refused Offset) above (omega arith)
+    (early-pick 7 (ltZ highestOffset d) (Refused Offset) Accepted (omega arith) tt)
 
 pub early-tracks : (a b : List ℤ) (s : ℕ) → Early 6 (checkTracks a b s)
-early-tracks a b s = early-or 6 (checkRows a b) (tracksFault s) (early-up 5 6 (checkRows a b) (omega arith) (early-rows a b)) (early-pick 6 (ltb maxTracks s) (Refused Tracks) Accepted (omega arith) tt)
+early-tracks a b s =
+    early-or 6 (checkRows a b) (tracksFault s)
+    (early-up 5 6 (checkRows a b) (omega arith) (early-rows a b))
+    (early-pick 6 (ltb maxTracks s) (Refused Tracks) Accepted (omega arith) tt)
 
 pub early-shift : (a b : List ℤ) (d : ℤ) → Early 7 (checkOffset a b d)
 early-shift a b d = early-or 7 (checkRows a b) (offsetFault d) (early-up 5 7 (checkRows a b) (omega arith) (early-rows a b)) (early-offset d)

@@ -52,9 +52,13 @@ previous r = toZ w32 (r .before .before .loop .before)
 read : (r : Read) → toZ w32 (ofZ w32 (here r)) ≡ here r
 read r = back (here r) (r .x .given)
 
+-- there the row's fault is the fault of what is left of it
+left-over : (r : Read) → rowFault (base r) (row r) ≡ faultAfter (previous r) (base r + place r) (drop (place r) (row r))
+left-over r = r .before .before .loop .inv .2
+
 -- the answer where that column is out of range
 out : (r : Read) → (AcceptedColumn (here r) → ⊥) → Refused (Column (base r + place r)) ≡ rowFault (base r) (row r)
-out r h = sym (r .before .before .loop .inv .2 ∙ column (row r) (previous r) (base r) (place r) (r .before .loop-test .taken) h)
+out r h = sym (left-over r ∙ column (row r) (previous r) (base r) (place r) (r .before .loop-test .taken) h)
 
 sub-before : tie.Need-sub-before Inv-loop μ-loop
 sub-before c = search needs
@@ -96,7 +100,7 @@ returns-3 c =
     let not-above : leZ (here r) (previous r) ≡ true = rw (read r) at (c .before .if2 .taken) in
     let not-left : ltZ (here r) firstColumn ≡ false = rw (read r) at (c .if3 .left) in
     let accepted : AcceptedColumn (here r) = record { low = false-lt (here r) firstColumn not-left; high = false-lt lastColumn (here r) not-right } in
-    sym (r .before .before .loop .inv .2 ∙ order (row r) (previous r) (base r) (place r) (r .before .loop-test .taken) accepted not-above)
+    sym (left-over r ∙ order (row r) (previous r) (base r) (place r) (r .before .loop-test .taken) accepted not-above)
 
 add-i : tie.Need-add-i Inv-loop μ-loop
 add-i c = search needs
@@ -113,7 +117,7 @@ loop-again c =
     let accepted : AcceptedColumn (here r) = record { low = low; high = false-lt lastColumn (here r) not-right } in (
       search needs,
       rw (read r) (omega (arithℤ, low)),
-      rw (read r) (r .before .before .loop .inv .2 ∙ next (row r) (previous r) (base r) (place r) (r .before .loop-test .taken) accepted above),
+      rw (read r) (left-over r ∙ next (row r) (previous r) (base r) (place r) (r .before .loop-test .taken) accepted above),
     )
 
 returns-4 : tie.Need-returns-4 Inv-loop μ-loop
