@@ -1,17 +1,19 @@
 -- The whole call on accepted rows, over plain lists: climbed at stride 1, and the range read.
 use mathlib.Core.Path.{_≡_, ap, _∙_}
 use mathlib.Core.List.{List}
-use Prim.Native.Nat.{ℕ}
+use Prim.Native.Nat.{ℕ, min}
 use native.Mathlib.Omega.{arith}
 use lib.ListN.{length}
 use lib.IntN.{ℤ}
 use Rattle.wiring.specs.Fit.{leanOf}
 use Rattle.wiring.specs.Tracks.{tracksFor}
+use Rattle.jumper.specs.Limits.{maxTracks}
 use Rattle.jumper.specs.Span.{rangeOf}
 use Rattle.jumper.specs.declared.range.OffsetRange.{OffsetRange}
 use Rattle.best.specs.Work.{levelEntries, trialOf, Keeps, Climbable, Halved, Climbed, Plannable, IsPlanned}
 use Rattle.best.specs.declared.trial.Trial.{Trial}
 use Rattle.best.specs.declared.level.Level.{Level}
+use Rattle.jumper.proofs.Wired.{tracks-given}
 use Rattle.best.proofs.Bests.{best-is-best}
 use Rattle.best.proofs.Strides.{whole-entries, whole-strided, bottom-steady, top-steady}
 
@@ -33,9 +35,12 @@ module _ (a b : List ℤ) (l : List ℕ) (p : Plannable a b l) where
           kept = λ g. by-lean .level .kept g ∙ rw (by-lean .level .best);
         }
 
-    pub planned : (r : OffsetRange) (t : ℕ) → r ≡ rangeOf (length a) (leanOf a) (leanOf b) (u .best) → t ≡ tracksFor (u .best)
+    pub planned : (r : OffsetRange) (t : ℕ) → r ≡ rangeOf (length a) (leanOf a) (leanOf b) (u .best) → t ≡ min (tracksFor (u .best)) maxTracks
         → IsPlanned a b l z (record { separation = t; range = r; count = u .count })
-    planned r t e g = record { planned = rw (e, g, by-lean .level .best, by-lean .level .count); ladder = by-lean .ladder }
+    planned r t e g =
+        let few = keeps-plan .inside in
+        let h : t ≡ tracksFor (u .best) = g ∙ tracks-given (u .best) (omega (arith, few, p .rows .few)) in
+        record { planned = rw (e, h, by-lean .level .best, by-lean .level .count); ladder = by-lean .ladder }
 
 -- the trial of the whole rows
 pub whole-trial : (a b : List ℤ) (s : ℕ) (r : Trial) → r ≡ trialOf (length a) (levelEntries a 1) (levelEntries b 1) s → r ≡ trialOf (length a) (leanOf a) (leanOf b) s

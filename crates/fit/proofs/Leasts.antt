@@ -3,7 +3,7 @@ use mathlib.Core.Path.{_≡_, refl, sym, _∙_}
 use mathlib.Core.Bool.{Bool, true, false, cond}
 use mathlib.Core.List.{List}
 use mathlib.Core.Logic.{_⊎_, inl, inr, ⊎-elim}
-use Prim.Native.Nat.{ℕ, zero, suc, _+_, _-_, _<_, _≤_}
+use Prim.Native.Nat.{ℕ, zero, suc, _+_, _-_, _<_, _≤_, min}
 use native.Mathlib.Decide.{decLt}
 use native.Mathlib.Numerals.{add-one}
 use native.Mathlib.Omega.{arith}
@@ -17,6 +17,7 @@ use Rattle.wiring.specs.Fit.{leanOf, Steady, lowEnd, highEnd, Fits, TooRight, T
 use Rattle.wiring.specs.Tracks.{ruleAt, tracksFor}
 use Rattle.wiring.proofs.Rule.{lean-steady, fits-above, ends-next, right-breaks, left-breaks}
 use Rattle.wiring.proofs.Serves.{rule-zero, rule-back, rule-below, rule-fewer, tracks-up}
+use Rattle.jumper.specs.Limits.{maxTracks}
 use Rattle.jumper.specs.Asked.{checkOffset, AcceptedShift, Asked}
 use Rattle.jumper.specs.declared.refusal.Side.{Side}
 use Rattle.jumper.specs.declared.refusal.Side.the-variants.{Right, Left}
@@ -28,7 +29,7 @@ use Rattle.fit.specs.Misfit.{tooRight, tooLeft, isRight, misfitFrom, mis
 use Rattle.fit.specs.Least.{breaksAt, leastOf, withWitness, LeastAnswer}
 use Rattle.fit.specs.declared.misfit.Misfit.the-variants.{None, At}
 use Rattle.fit.specs.declared.least.Least.the-variants.{Straight, Tracks, Refused as NoLeast}
-use Rattle.jumper.proofs.Wired.{wiring-exactly}
+use Rattle.jumper.proofs.Wired.{wiring-exactly, tracks-given}
 use Rattle.fit.proofs.Misfits.{Free, not-here, none-fits, at-broken, broken-inside, broken-breaks, at-witness, free-before}
 
 -- pair i, by the test
@@ -218,5 +219,8 @@ module _ (a b : List ℤ) (d : ℤ) (k : AcceptedShift a b d) (s i : ℕ) (right
   pub seek-straight : misfitFrom (leanOf a) (leanOf b) s d i (length a - s - i) ≡ None → s ≡ 0 → LeastAnswer a b d Straight
   seek-straight e z = straight a b d k (sym (seek-done e) ∙ z)
 
-  pub seek-tracks : misfitFrom (leanOf a) (leanOf b) s d i (length a - s - i) ≡ None → 0 < s → LeastAnswer a b d (Tracks (tracksFor s) i (sideOf right))
-  seek-tracks e h = let f = seek-done e in rw f (tracks a b d k i (sideOf right) (rw f at h) (rw f at (c .last h)))
+  pub seek-tracks : (t : ℕ) → t ≡ min (tracksFor s) maxTracks → misfitFrom (leanOf a) (leanOf b) s d i (length a - s - i) ≡ None → 0 < s → LeastAnswer a b d (Tracks t i (sideOf right))
+  seek-tracks t q e h =
+      let f = seek-done e in
+      let g : t ≡ tracksFor s = q ∙ tracks-given s (omega (arith, c .below, k .rows .few)) in
+      rw (g, f) (tracks a b d k i (sideOf right) (rw f at h) (rw f at (c .last h)))

@@ -2,7 +2,7 @@
 use mathlib.Core.Path.{_≡_, refl}
 use mathlib.Core.List.{List}
 use mathlib.Core.Logic.{_↔_}
-use Prim.Native.Nat.{ℕ, _+_, _≤_, _<_}
+use Prim.Native.Nat.{ℕ, _+_, _≤_, _<_, min}
 use native.Mathlib.Omega.{arith}
 use lib.ListN.{length}
 use lib.IntN.{ℤ, pos, _-ℤ_}
@@ -11,7 +11,7 @@ use Rattle.wiring.specs.Wiring.{HasWiring, pad}
 use Rattle.wiring.specs.Fit.{leanOf, Fits}
 use Rattle.wiring.specs.Tracks.{ruleAt, tracksFor}
 use Rattle.wiring.proofs.Rule.{spread}
-use Rattle.wiring.proofs.Serves.{rule-most}
+use Rattle.wiring.proofs.Serves.{rule-most, tracks-near}
 use Rattle.wiring.proofs.Theorem.{fit-exactly}
 use Rattle.jumper.specs.Limits.{maxPairs, maxTracks, firstColumn, lastColumn, lowestOffset, highestOffset, AcceptedColumn, AcceptedOffset}
 use Rattle.jumper.specs.Rows.{AcceptedRow, AcceptedRows}
@@ -28,10 +28,12 @@ tracks-rule {s = s} k = record { rows = k .rows; tracks = omega (arith, k .track
 pub asked-rule : {a b : List ℤ} {s : ℕ} {d : ℤ} → Asked a b s d → Asked a b (ruleAt s) d
 asked-rule {s = s} k = record { rows = k .rows; tracks = omega (arith, k .tracks, rule-most s); offset = k .offset }
 
--- the separation that serves any accepted number of pairs is accepted
+-- the separation that serves any accepted number of pairs is accepted, so the code gives it as it is
 pub tracks-most : (n : ℕ) → n ≤ maxPairs → tracksFor n ≤ maxTracks
-unfolding tracksFor
-tracks-most n h = h
+tracks-most n h = omega (arith, tracks-near n)
+
+pub tracks-given : (n : ℕ) → n ≤ maxPairs → min (tracksFor n) maxTracks ≡ tracksFor n
+tracks-given n h = let m : tracksFor n ≤ maxTracks = tracks-most n h in omega arith
 
 -- a difference of two columns is an accepted offset
 pub difference-accepted : {x y : ℤ} → AcceptedColumn x → AcceptedColumn y → AcceptedOffset (x -ℤ y)

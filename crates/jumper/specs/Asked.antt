@@ -12,7 +12,7 @@ use Rattle.jumper.specs.declared.refusal.Refusal.the-variants.{Tracks, O
 use Rattle.jumper.specs.declared.rows.Checked.{Checked}
 use Rattle.jumper.specs.declared.rows.Checked.the-variants.{Accepted, Refused}
 
--- "separation over 2,048"
+-- 02, #106: "TRACKS is given above 2,049"
 abbrev pub tracksFault : ℕ → Checked
 tracksFault s = pick (ltb maxTracks s) (Refused Tracks) Accepted
 

@@ -1,4 +1,4 @@
--- 01, "Numbers we accept", with 02's #105, "Pads left of the datum". Each limit stands here once and in src/ once; those of a column and of an offset have
+-- 01, "Numbers we accept", with 02's #105, "Pads left of the datum", and #106, "Wires beside the lower stiffener". Each limit stands here once and in src/ once; those of a column and of an offset have
 -- names in the header for C and in the wrapper for Rust too. negsuc k is -(k + 1).
 --
 -- Worked, around a centre pin: C = rows -1,0,1 and -2,0,2. Its x are -1,-1,-1 and its y -2,-1,0.
@@ -16,18 +16,18 @@ use lib.Signed.{_≤ℤ_}
 abbrev pub maxPairs : ℕ
 maxPairs = 2048
 
--- 02: "Columns become -65,535 to 65,535"
+-- 02, #105: "Columns become -65,535 to 65,535"
 abbrev pub firstColumn : ℤ
 firstColumn = negsuc 65534
 
 abbrev pub lastColumn : ℤ
 lastColumn = pos 65535
 
--- "Separation: 0 to 2,048."
+-- 02, #106: "TRACKS is given above 2,049", so separations go from 0 to that
 abbrev pub maxTracks : ℕ
-maxTracks = 2048
+maxTracks = 2049
 
--- 02: "Differences and offsets then reach -131,070 to 131,070."
+-- 02, #105: "Differences and offsets then reach -131,070 to 131,070."
 abbrev pub lowestOffset : ℤ
 lowestOffset = negsuc 131069
 

@@ -20,7 +20,7 @@ use Rattle.jumper.specs.declared.refusal.Refusal.{Refusal}
 use Rattle.jumper.specs.declared.refusal.Refusal.the-variants.{BadWire}
 use Rattle.jumper.specs.declared.rows.Checked.{Checked}
 use Rattle.jumper.specs.declared.rows.Checked.the-variants.{Accepted, Refused}
-use Rattle.route.specs.Check.{rightmost, leftmost, WrongStart, WrongEnd, Touching, Fault, NoFault, FirstFault, startWrong, endWrong, runTouches, faultAt, wireFault, trackFault}
+use Rattle.route.specs.Check.{rightmost, leftmost, WrongStart, WrongEnd, StepsAside, Touching, Fault, NoFault, FirstFault, startWrong, endWrong, stepsAside, runTouches, faultAt, wireFault, trackFault}
 
 -- WHAT A TEST TELLS
 pub record Tells (t : Bool) (P : Type 0) : Type 0 where
@@ -60,6 +60,12 @@ pub end-tells : (s : ℕ) (c : ℕ → ℤ) (e : ℕ → ℕ → ℤ) (t i : ℕ
 unfolding endWrong
 end-tells s c e t i = also (eqb t s) (equal-tells t s) (differ-tells (e i s) (c i))
 
+pub aside-tells : (s : ℕ) (e : ℕ → ℕ → ℤ) (t i : ℕ) → Tells (stepsAside s e t i) (StepsAside s e t i)
+unfolding stepsAside
+aside-tells s e t i =
+    let r = also (eqb t 0) (equal-tells t 0) (also (ltb 0 s) (less-tells 0 s) (differ-tells (e i 1) (e i 0))) in
+    record { yes = λ h. let f = r .yes h in (f .0, f .1 .0, f .1 .1); no = λ h f. r .no h (f .0, (f .1, f .2)) }
+
 run-tells : (n s : ℕ) (e : ℕ → ℕ → ℤ) (t i : ℕ) → Tells (runTouches n s e t i) (Touching n s e t i)
 unfolding runTouches
 run-tells n s e t i =
@@ -71,7 +77,10 @@ run-tells n s e t i =
 
 fault-tells : (n s : ℕ) (a c : ℕ → ℤ) (e : ℕ → ℕ → ℤ) (t i : ℕ) → Tells (faultAt n s a c e t i) (Fault n s a c e t i)
 unfolding faultAt
-fault-tells n s a c e t i = either (startWrong a e t i) (start-tells a e t i) (either (endWrong s c e t i) (end-tells s c e t i) (run-tells n s e t i))
+fault-tells n s a c e t i =
+    either (startWrong a e t i) (start-tells a e t i)
+    (either (endWrong s c e t i) (end-tells s c e t i)
+    (either (stepsAside s e t i) (aside-tells s e t i) (run-tells n s e t i)))
 
 -- THE TESTS AS THE CODE MEETS THEM
 module _ (n s : ℕ) (a c : ℕ → ℤ) (e : ℕ → ℕ → ℤ) (t i : ℕ) where
@@ -90,6 +99,18 @@ module _ (n s : ℕ) (a c : ℕ → ℤ) (e : ℕ → ℕ → ℤ) (t i : ℕ) w
   pub end-off : t ≢ s → endWrong s c e t i ≡ false
   unfolding endWrong
   end-off h = rw (ne-eqb t s h)
+
+  pub aside-here : t ≡ 0 → 0 < s → stepsAside s e t i ≡ differ (e i 1) (e i 0)
+  unfolding stepsAside
+  aside-here h l = rw (eq-eqb t 0 h, lt-ltb 0 s l)
+
+  pub aside-flat : t ≡ 0 → s ≤ 0 → stepsAside s e t i ≡ false
+  unfolding stepsAside
+  aside-flat h l = rw (eq-eqb t 0 h, le-ltb 0 s l)
+
+  pub aside-off : t ≢ 0 → stepsAside s e t i ≡ false
+  unfolding stepsAside
+  aside-off h = rw (ne-eqb t 0 h)
 
   pub touches-here : t < s → i + 1 < n → runTouches n s e t i ≡ leZ (leftmost e (i + 1) t) (rightmost e i t)
   unfolding runTouches
@@ -115,9 +136,13 @@ module _ (n s : ℕ) (a c : ℕ → ℤ) (e : ℕ → ℕ → ℤ) (t i : ℕ) w
   unfolding faultAt
   fault-end h k = rw (h, k)
 
-  pub fault-run : startWrong a e t i ≡ false → endWrong s c e t i ≡ false → faultAt n s a c e t i ≡ runTouches n s e t i
+  pub fault-aside : startWrong a e t i ≡ false → endWrong s c e t i ≡ false → stepsAside s e t i ≡ true → faultAt n s a c e t i ≡ true
   unfolding faultAt
-  fault-run h k = rw (h, k)
+  fault-aside h k l = rw (h, k, l)
+
+  pub fault-run : startWrong a e t i ≡ false → endWrong s c e t i ≡ false → stepsAside s e t i ≡ false → faultAt n s a c e t i ≡ runTouches n s e t i
+  unfolding faultAt
+  fault-run h k l = rw (h, k, l)
 
 -- THE SEARCH, a step at a time
 module _ (wrong : ℕ → Bool) (t n i : ℕ) where

@@ -14,13 +14,14 @@ use Rattle.wiring.specs.Wiring.{at}
 use Rattle.wiring.specs.Fit.{Rising}
 use Rattle.wiring.specs.Table.{Between, LegalTable}
 use Rattle.wiring.proofs.Rule.{rising-less}
-use Rattle.wiring.proofs.Build.{wire-fills, wire-starts, wire-ends, Ordered, ordered-legal}
+use Rattle.wiring.proofs.Build.{wire-fills, wire-starts, wire-ends, wire-rises, Ordered, ordered-legal}
 use Rattle.route.specs.Check.{rightmost, leftmost, WireClear, NoFault}
 
 -- the checker's rule, said of what is right
 record InOrder (n s : ℕ) (a c : ℕ → ℤ) (e : ℕ → ℕ → ℤ) : Type 0 where
   starts : (i : ℕ) → i < n → e i 0 ≡ a i
   ends : (i : ℕ) → i < n → e i s ≡ c i
+  rises : (i : ℕ) → i < n → 0 < s → e i 1 ≡ e i 0
   runs : (t i : ℕ) → t < s → suc i < n → rightmost e i t <ℤ leftmost e (suc i) t
 
 -- two columns that do not differ are the same
@@ -56,7 +57,8 @@ module _ (n s : ℕ) (a c : ℕ → ℤ) (e : ℕ → ℕ → ℤ) where
     (λ f. record {
       starts = λ i h. same (e i 0) (a i) (λ k. f i h 0 (omega arith) (inl (refl, k)));
       ends = λ i h. same (e i s) (c i) (λ k. f i h s (omega arith) (inr (inl (refl, k))));
-      runs = λ t i h k. ⊎-elim (λ l. absurd (f i (omega arith) t (omega arith) (inr (inr (record { track = h; wire = k; touches = l }))))) (λ l. l) (≤-or-< (leftmost e (suc i) t) (rightmost e i t));
+      rises = λ i h l. same (e i 1) (e i 0) (λ k. f i h 0 (omega arith) (inr (inr (inl (refl, l, k)))));
+      runs = λ t i h k. ⊎-elim (λ l. absurd (f i (omega arith) t (omega arith) (inr (inr (inr (record { track = h; wire = k; touches = l })))))) (λ l. l) (≤-or-< (leftmost e (suc i) t) (rightmost e i t));
     }),
     (λ o i h. clear i h o),
   )
@@ -64,7 +66,8 @@ module _ (n s : ℕ) (a c : ℕ → ℤ) (e : ℕ → ℕ → ℤ) where
       clear : (i : ℕ) → i < n → InOrder n s a c e → WireClear n s a c e i
       clear i h o t l (inl f) = f .1 (o .starts i h)
       clear i h o t l (inr (inl f)) = f .1 (o .ends i h)
-      clear i h o t l (inr (inr f)) = omega (arithℤ, f .touches, o .runs t i (f .track) (f .wire))
+      clear i h o t l (inr (inr (inl f))) = f .2 (o .rises i h (f .1))
+      clear i h o t l (inr (inr (inr f))) = omega (arithℤ, f .touches, o .runs t i (f .track) (f .wire))
 
   -- the order of neighbours is the order of all
   chain : InOrder n s a c e → (t k i j : ℕ) → t < s → i + suc k ≡ j → j < n → rightmost e i t <ℤ leftmost e j t
@@ -81,7 +84,7 @@ module _ (n s : ℕ) (a c : ℕ → ℤ) (e : ℕ → ℕ → ℤ) where
   apart A t i j lt h l = chain A t (j - suc i) i j lt (omega arith) l
 
   in-order-ordered : Rising n c → InOrder n s a c e → Ordered n s a c e
-  in-order-ordered rc A = record { bottom = A .starts; top = A .ends; clear = clear }
+  in-order-ordered rc A = record { bottom = A .starts; rises = A .rises; top = A .ends; clear = clear }
     where
       -- both columns belong to the runs of track m
       on : (i j m t t′ : ℕ) → i < j → j < n → m < s → (t ≡ m) ⊎ (t ≡ suc m) → (t′ ≡ m) ⊎ (t′ ≡ suc m) → e i t <ℤ e j t′
@@ -129,6 +132,7 @@ module _ (n s : ℕ) (a c : ℕ → ℤ) (e : ℕ → ℕ → ℤ) where
         record {
           starts = starts;
           ends = ends;
+          rises = λ i h. wire-rises (e i) s (a i) (c i) (L .wires i h);
           runs = λ t i ts l. order (e i t) (e i (suc t)) (e (suc i) t) (e (suc i) (suc t)) (entered t (omega arith) i l) (alone t i (suc i) ts (omega arith) l);
         }
 

@@ -18,8 +18,8 @@ use Rattle.whole.proofs.Arith.{up, down, arithℤ, ≤-or-<}
 use Rattle.whole.proofs.Order.{untrue, true-lt, false-lt, larger-law, smaller-law}
 use Rattle.wiring.specs.Wiring.{pad}
 use Rattle.route.specs.Table.{columnIn}
-use Rattle.route.specs.Check.{rightmost, leftmost, WireClear, NoFault, RunsApart, startWrong, endWrong}
-use Rattle.route.proofs.Faults.{start-tells, end-tells}
+use Rattle.route.specs.Check.{rightmost, leftmost, WireClear, NoFault, RunsApart, startWrong, endWrong, stepsAside}
+use Rattle.route.proofs.Faults.{start-tells, end-tells, aside-tells}
 
 -- what one comparison adds
 record Added (x y : ℤ) (k : ℕ) : Type 0 where
@@ -90,12 +90,13 @@ rows-apart table s i at next e f =
       runs-same (columnIn table s i) (pad (take (length table - at) (drop at table))) (columnIn table s (suc i)) (pad (take (length table - next) (drop next table))) s (λ t. sym (p t)) (λ t. sym (q t)),
     )
 
--- A WIRE IS CLEAR when it starts and ends right and its runs are to the left of the next wire's
+-- A WIRE IS CLEAR when it starts and ends right, goes straight up from its pad, and its runs are to the left of the next wire's
 module _ (n s : ℕ) (a c : ℕ → ℤ) (e : ℕ → ℕ → ℤ) (i : ℕ) where
-  pub clear-of : startWrong a e 0 i ≡ false → endWrong s c e s i ≡ false → (suc i < n → RunsApart (e i) (e (suc i)) s) → WireClear n s a c e i
-  clear-of f g r t h (inl x) = start-tells a e 0 i .no f (refl, x .1)
-  clear-of f g r t h (inr (inl x)) = end-tells s c e s i .no g (refl, x .1)
-  clear-of f g r t h (inr (inr x)) = omega (arithℤ, x .touches, r (x .wire) t (x .track))
+  pub clear-of : startWrong a e 0 i ≡ false → endWrong s c e s i ≡ false → stepsAside s e 0 i ≡ false → (suc i < n → RunsApart (e i) (e (suc i)) s) → WireClear n s a c e i
+  clear-of f g q r t h (inl x) = start-tells a e 0 i .no f (refl, x .1)
+  clear-of f g q r t h (inr (inl x)) = end-tells s c e s i .no g (refl, x .1)
+  clear-of f g q r t h (inr (inr (inl x))) = aside-tells s e 0 i .no q (refl, x .1, x .2)
+  clear-of f g q r t h (inr (inr (inr x))) = omega (arithℤ, x .touches, r (x .wire) t (x .track))
 
   pub start-unclear : startWrong a e 0 i ≡ true → WireClear n s a c e i → ⊥
   start-unclear f w = w 0 (omega arith) (inl (start-tells a e 0 i .yes f))
@@ -103,14 +104,17 @@ module _ (n s : ℕ) (a c : ℕ → ℤ) (e : ℕ → ℕ → ℤ) (i : ℕ) whe
   pub end-unclear : endWrong s c e s i ≡ true → WireClear n s a c e i → ⊥
   end-unclear f w = w s (omega arith) (inr (inl (end-tells s c e s i .yes f)))
 
+  pub aside-unclear : stepsAside s e 0 i ≡ true → WireClear n s a c e i → ⊥
+  aside-unclear f w = w 0 (omega arith) (inr (inr (inl (aside-tells s e 0 i .yes f))))
+
   pub clear-runs : suc i < n → WireClear n s a c e i → RunsApart (e i) (e (suc i)) s
-  clear-runs l w t h = ⊎-elim (λ x. absurd (w t (omega arith) (inr (inr (record { track = h; wire = l; touches = x }))))) (λ x. x) (≤-or-< (leftmost e (suc i) t) (rightmost e i t))
+  clear-runs l w t h = ⊎-elim (λ x. absurd (w t (omega arith) (inr (inr (inr (record { track = h; wire = l; touches = x })))))) (λ x. x) (≤-or-< (leftmost e (suc i) t) (rightmost e i t))
 
-  pub clear-by : (k : ℕ) → startWrong a e 0 i ≡ false → endWrong s c e s i ≡ false → suc i < n → (k ≡ 0) ↔ RunsApart (e i) (e (suc i)) s → (eqb k 0 ≡ true) ↔ WireClear n s a c e i
-  clear-by k f g l r = ((λ z. clear-of f g (λ h. r .0 (eqb-true k 0 z))), (λ w. eq-eqb k 0 (r .1 (clear-runs l w))))
+  pub clear-by : (k : ℕ) → startWrong a e 0 i ≡ false → endWrong s c e s i ≡ false → stepsAside s e 0 i ≡ false → suc i < n → (k ≡ 0) ↔ RunsApart (e i) (e (suc i)) s → (eqb k 0 ≡ true) ↔ WireClear n s a c e i
+  clear-by k f g q l r = ((λ z. clear-of f g q (λ h. r .0 (eqb-true k 0 z))), (λ w. eq-eqb k 0 (r .1 (clear-runs l w))))
 
-  pub clear-last : startWrong a e 0 i ≡ false → endWrong s c e s i ≡ false → n ≤ suc i → (true ≡ true) ↔ WireClear n s a c e i
-  clear-last f g l = ((λ z. clear-of f g (λ h. absurd (omega arith))), (λ w. refl))
+  pub clear-last : startWrong a e 0 i ≡ false → endWrong s c e s i ≡ false → stepsAside s e 0 i ≡ false → n ≤ suc i → (true ≡ true) ↔ WireClear n s a c e i
+  clear-last f g q l = ((λ z. clear-of f g q (λ h. absurd (omega arith))), (λ w. refl))
 
   pub unclear : (WireClear n s a c e i → ⊥) → (false ≡ true) ↔ WireClear n s a c e i
   unclear h = ((λ z. untrue z), (λ w. absurd (h w)))

@@ -3,7 +3,7 @@ use mathlib.Core.Path.{_≡_, refl, sym, ap, _∙_}
 use mathlib.Core.Bool.{Bool}
 use mathlib.Core.List.{List}
 use Prim.Native.Nat.{ℕ, zero, suc, _+_, _*_, _≤_, _<_}
-use native.Mathlib.Decide.{decLt}
+use native.Mathlib.Decide.{decLt, ℕ-discrete}
 use native.Mathlib.Omega.{arith}
 use borrow.Author.Tests.{lt-ltb, le-ltb}
 use lib.ListN.{length, take, length-take, getD}
@@ -11,9 +11,9 @@ use lib.Seq.{getD-take}
 use lib.IntN.{ℤ, pos}
 use Rattle.wiring.specs.Wiring.{pad, topPad}
 use Rattle.route.specs.Table.{columnIn, noRoom}
-use Rattle.route.specs.Check.{startWrong, endWrong, runTouches, faultAt, wireFault, trackFault, routeChecked}
+use Rattle.route.specs.Check.{startWrong, endWrong, stepsAside, runTouches, faultAt, wireFault, trackFault, routeChecked}
 use Rattle.route.proofs.Places.{place-in}
-use Rattle.route.proofs.Faults.{touches-here, touches-last, touches-top}
+use Rattle.route.proofs.Faults.{aside-here, aside-flat, aside-off, touches-here, touches-last, touches-top}
 
 -- the same columns have the same faults
 module _ (n s : ℕ) (a c : ℕ → ℤ) (e f : ℕ → ℕ → ℤ) (same : (i t : ℕ) → i < n → t ≤ s → e i t ≡ f i t) where
@@ -28,9 +28,17 @@ module _ (n s : ℕ) (a c : ℕ → ℤ) (e f : ℕ → ℕ → ℤ) (same : (i 
       go (yes h) (no k) = touches-last n s a c e t i (omega arith) ∙ sym (touches-last n s a c f t i (omega arith))
       go (no h) k = touches-top n s a c e t i (omega arith) ∙ sym (touches-top n s a c f t i (omega arith))
 
+  aside-same : (t i : ℕ) → i < n → stepsAside s e t i ≡ stepsAside s f t i
+  aside-same t i l = go (ℕ-discrete t 0) (decLt 0 s)
+    where
+      go : Dec (t ≡ 0) → Dec (0 < s) → stepsAside s e t i ≡ stepsAside s f t i
+      go (yes h) (yes k) = aside-here n s a c e t i h k ∙ rw (same i 1 l (omega arith), same i 0 l (omega arith)) (sym (aside-here n s a c f t i h k))
+      go (yes h) (no k) = aside-flat n s a c e t i h (omega arith) ∙ sym (aside-flat n s a c f t i h (omega arith))
+      go (no h) k = aside-off n s a c e t i h ∙ sym (aside-off n s a c f t i h)
+
   fault-same : (t i : ℕ) → i < n → faultAt n s a c e t i ≡ faultAt n s a c f t i
   unfolding faultAt startWrong endWrong
-  fault-same t i l = rw (same i 0 l (omega arith), same i s l (omega arith), touches-same t i l)
+  fault-same t i l = rw (same i 0 l (omega arith), same i s l (omega arith), aside-same t i l, touches-same t i l)
 
 -- the same tests find the same fault
 wire-fault-same : (p q : ℕ → Bool) (t i k : ℕ) → ((j : ℕ) → j < i + k → p j ≡ q j) → wireFault p t i k ≡ wireFault q t i k

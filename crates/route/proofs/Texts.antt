@@ -15,8 +15,10 @@ use Rattle.whole.proofs.Arith.{up, down, arithℤ, sum, dif}
 use Rattle.whole.proofs.Order.{false-lt, lt-false}
 use Rattle.wiring.specs.Wiring.{pad, topPad}
 use Rattle.wiring.specs.Fit.{Rising}
-use Rattle.wiring.specs.Drawing.{entry, drawn}
+use Rattle.wiring.specs.Tracks.{ruleAt}
+use Rattle.wiring.specs.Drawing.{entry, columnAt, drawn}
 use Rattle.wiring.proofs.Rule.{spread}
+use Rattle.wiring.proofs.Serves.{rule-up}
 use Rattle.wiring.proofs.Drawing.{entry-clamped}
 use Rattle.jumper.specs.Refusals.{refusalNumbers}
 use Rattle.jumper.specs.Rows.{checkedNumbers}
@@ -47,8 +49,8 @@ differ-same x = let e : ltZ x x ≡ false = lt-false x x (omega arithℤ) in sim
 
 -- ---- a wire that has come to the column of its top pad stays there
 
-stays : (n : ℕ) (a : ℕ → ℤ) → Rising n a → (c : ℤ) (i t u : ℕ) → i < n → t ≤ u → entry n a c i t ≡ c → entry n a c i u ≡ c
-stays n a ra c i t u here le e =
+held : (n : ℕ) (a : ℕ → ℤ) → Rising n a → (c : ℤ) (i t u : ℕ) → i < n → t ≤ u → entry n a c i t ≡ c → entry n a c i u ≡ c
+held n a ra c i t u here le e =
     let x = entry-clamped n a ra c i t here in
     let y = entry-clamped n a ra c i u here in
     let low : entry n a c i u ≤ℤ c = ⊎-elim (λ p. p)
@@ -58,6 +60,9 @@ stays n a ra c i t u here le e =
     (λ p. omega (arithℤ, p .1, e, x .upper (omega (arith, p .0)), dif (a (i + u)) (pos u), dif (a (i + t)) (pos t), sum (a (i + t)) (pos (u - t)), spread ra (u - t) (i + t) (i + u) (omega arith) (p .0)))
     (y .above) in
     omega arithℤ
+
+stays : (n : ℕ) (a : ℕ → ℤ) → Rising n a → (c : ℤ) (i t u : ℕ) → i < n → t ≤ u → columnAt n a c i t ≡ c → columnAt n a c i u ≡ c
+stays n a ra c i t u here le = held n a ra c i (ruleAt t) (ruleAt u) here (rule-up t u le)
 
 no-tracks : (l : ℕ) (e : ℕ → ℕ → ℤ) (c : ℤ) (i t k : ℕ) → ((u : ℕ) → t ≤ u → e i u ≡ c) → wireText l e i t k ≡ []
 unfolding wireText moveText

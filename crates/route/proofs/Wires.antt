@@ -1,21 +1,22 @@
--- 01's columns of one wire: where a pad holds it and where none does.
-use mathlib.Core.Path.{_≡_, sym, ap, _∙_}
+-- The columns of one wire: 01's, where a pad holds it and where none does, and ours, one straight step below.
+use mathlib.Core.Path.{_≡_, refl, sym, ap, _∙_}
 use mathlib.Core.Bool.{true, false}
 use mathlib.Core.List.{List, _++_}
 use Prim.Native.Nat.{ℕ, zero, suc, _+_, _-_, _≤_, _<_}
 use native.Mathlib.Omega.{arith}
 use borrow.Author.Tests.{lt-ltb, le-ltb}
-use lib.ListN.{length, drop}
+use lib.ListN.{length, take, drop, set}
 use lib.IntN.{ℤ, pos, _+ℤ_, _-ℤ_}
 use lib.Signed.{_≤ℤ_, ltZ}
 use Rattle.whole.specs.Pick.{largerOf, smallerOf}
 use Rattle.whole.proofs.Arith.{up, down, arithℤ, sum, dif}
 use Rattle.whole.proofs.Order.{true-lt, false-lt, larger-right, smaller-right}
 use Rattle.wiring.specs.Wiring.{pad, topPad}
-use Rattle.wiring.specs.Drawing.{rightward, leftward, entry}
+use Rattle.wiring.specs.Drawing.{rightward, leftward, entry, columnAt}
+use Rattle.wiring.proofs.Serves.{rule-zero, rule-next}
 use Rattle.route.specs.Table.{columns}
 use Rattle.route.specs.Draw.{drawnOf, wireDrawn}
-use Rattle.route.proofs.Places.{columns-same}
+use Rattle.route.proofs.Places.{columns-length, columns-same, begun-next, put, put-same, lent-length, columns-on}
 
 module _ (n : ℕ) (a : ℕ → ℤ) (c : ℤ) (i t : ℕ) where
   pub rightward-held : i + t < n → rightward n a c i t ≡ smallerOf c (a (i + t) -ℤ pos t)
@@ -34,7 +35,7 @@ module _ (n : ℕ) (a : ℕ → ℤ) (c : ℤ) (i t : ℕ) where
   unfolding leftward
   leftward-free h = rw (lt-ltb i t h)
 
--- 01's two directions, on every track: on track 0 both are the pad itself
+-- 01's two directions, at every number: at 0 both are the pad itself
 module _ (n : ℕ) (a : ℕ → ℤ) (c : ℤ) (i : ℕ) where
   pub to-left : ltZ c (a i) ≡ true → (t : ℕ) → entry n a c i t ≡ leftward a c i t
   unfolding entry
@@ -53,10 +54,40 @@ module _ (n : ℕ) (a : ℕ → ℤ) (c : ℤ) (i : ℕ) where
       sym (rightward-held n a c i 0 (omega arith) ∙ rw q (smaller-right c (a i) (false-lt c (a i) h)))
   to-right lt h (suc t) = rw h
 
--- the same of rows that are lists, and of a buffer
-module _ (a b : List ℤ) (s : ℕ) (d : ℤ) (i : ℕ) (c : ℤ) (out out′ : List ℤ) (top : c ≡ topPad b d i) where
-  pub left-drawn : ltZ c (pad a i) ≡ true → out′ ≡ columns (leftward (pad a) c i) (s + 1) ++ drop (s + 1) out → out′ ≡ wireDrawn a b s d i out
-  left-drawn h e = e ∙ rw (columns-same (leftward (pad a) c i) (drawnOf a b d i) (s + 1) (λ t l. sym (to-left (length a) (pad a) c i h t) ∙ ap (λ (z : ℤ). entry (length a) (pad a) z i t) top))
+  -- so 01's columns are those of the direction that was chosen
+  pub left-columns : (k : ℕ) → ltZ c (a i) ≡ true → columns (leftward a c i) k ≡ columns (entry n a c i) k
+  left-columns k h = columns-same (leftward a c i) (entry n a c i) k (λ t l. sym (to-left h t))
 
-  pub right-drawn : i < length a → ltZ c (pad a i) ≡ false → out′ ≡ columns (rightward (length a) (pad a) c i) (s + 1) ++ drop (s + 1) out → out′ ≡ wireDrawn a b s d i out
-  right-drawn lt h e = e ∙ rw (columns-same (rightward (length a) (pad a) c i) (drawnOf a b d i) (s + 1) (λ t l. sym (to-right (length a) (pad a) c i lt h t) ∙ ap (λ (z : ℤ). entry (length a) (pad a) z i t) top))
+  pub right-columns : (k : ℕ) → i < n → ltZ c (a i) ≡ false → columns (rightward n a c i) k ≡ columns (entry n a c i) k
+  right-columns k lt h = columns-same (rightward n a c i) (entry n a c i) k (λ t l. sym (to-right lt h t))
+
+-- above track 0 our columns are 01's, one track higher
+pub column-next : (n : ℕ) (a : ℕ → ℤ) (c : ℤ) (i t : ℕ) → columnAt n a c i (1 + t) ≡ entry n a c i t
+column-next n a c i t = let w : 1 + t ≡ suc t = omega arith in rw (w, rule-next t)
+
+pub column-first : (n : ℕ) (a : ℕ → ℤ) (c : ℤ) (i : ℕ) → columnAt n a c i 0 ≡ a i
+unfolding entry
+column-first n a c i = rw rule-zero
+
+-- WIRE i IN A BUFFER: pad i's column in its first place, and 01's first s columns in the part after it
+module _ (a b : List ℤ) (s : ℕ) (d : ℤ) (i : ℕ) (out : List ℤ) (room : s < length out) where
+  abbrev e : ℕ → ℤ
+  e = drawnOf a b d i
+
+  pub wire-begun : (x : ℤ) → x ≡ pad a i → set out 0 x ≡ columns e 1 ++ drop 1 out
+  unfolding columns
+  wire-begun x first = begun-next e out out 0 x (omega arith) (first ∙ sym (column-first (length a) (pad a) (topPad b d i) i)) refl
+
+  pub wire-room : (out′ : List ℤ) → out′ ≡ columns e 1 ++ drop 1 out → s ≤ length (take (length out′ - 1) (drop 1 out′))
+  wire-room out′ begun = omega (arith, lent-length (columns e 1) 1 out out′ (columns-length e 1) (omega arith) begun)
+
+  pub wire-same-length : (out′ : List ℤ) → out′ ≡ wireDrawn a b s d i out → length out′ ≡ length out
+  wire-same-length out′ drawn = put-same (columns e (s + 1)) (s + 1) out out′ (columns-length e (s + 1)) (omega arith) drawn
+
+  pub wire-drawn : (c : ℤ) (out′ ys : List ℤ) → c ≡ topPad b d i → out′ ≡ columns e 1 ++ drop 1 out
+      → ys ≡ columns (entry (length a) (pad a) c i) s ++ drop s (take (length out′ - 1) (drop 1 out′)) → put 1 out′ ys ≡ wireDrawn a b s d i out
+  wire-drawn c out′ ys top begun g =
+      let E : ℕ → ℤ = entry (length a) (pad a) c i in
+      let same : (t : ℕ) → t < s → E t ≡ e (1 + t) = λ t l. ap (λ (z : ℤ). entry (length a) (pad a) z i t) top ∙ sym (column-next (length a) (pad a) (topPad b d i) i t) in
+      let w : 1 + s ≡ s + 1 = omega arith in
+      rw w at (columns-on e 1 s out out′ ys (omega arith) begun (rw (columns-same E (λ t. e (1 + t)) s same) at g))

@@ -1,8 +1,10 @@
 -- Which fault the checker finds (01, "Drawing and checking"): "It reports the first fault by track, then wire: wrong start on track 0, wrong end on track s,
 -- or, below track s, a run whose highest column isn't below the next wire's lowest. Acceptance must equal legality as defined over grid points."
+-- And 02, #106: "a step aside on track 0 faults that wire there".
 -- Here wire i of n enters track t on column e i t; its pads are at columns a i below and c i above.
 --
--- Worked: rows 0,1 and 1,2 at offset 0 and separation 1. The table 0,1 / 1,2 has a fault at wire 0 on track 0: its run ends on column 1, where the next begins.
+-- Worked: rows 0,1 and 1,2 at offset 0 and separation 3. The table 0,0,0,1 / 1,1,2,2 is legal. In 0,0,0,1 / 1,2,2,2 wire 1 steps aside on track 0, where nobody
+-- is in its way: the fault is wire 1's. In 0,0,0,1 / 1,0,2,2 it steps to column 0, so wire 0's run isn't below it: the first fault is wire 0's, on track 0.
 use mathlib.Core.Bool.{Bool, true, false, cond}
 use mathlib.Core.Path.{_≡_}
 use mathlib.Core.List.{List}
@@ -36,6 +38,10 @@ WrongStart a e t i = (t ≡ 0) × (e i 0 ≢ a i)
 abbrev pub WrongEnd : (s : ℕ) (c : ℕ → ℤ) (e : ℕ → ℕ → ℤ) (t i : ℕ) → Type 0
 WrongEnd s c e t i = (t ≡ s) × (e i s ≢ c i)
 
+-- 02: "a step aside on track 0"; at separation 0 a wire has no second column
+abbrev pub StepsAside : (s : ℕ) (e : ℕ → ℕ → ℤ) (t i : ℕ) → Type 0
+StepsAside s e t i = (t ≡ 0) × (0 < s) × (e i 1 ≢ e i 0)
+
 -- "below track s, a run whose highest column isn't below the next wire's lowest"
 pub record Touching (n s : ℕ) (e : ℕ → ℕ → ℤ) (t i : ℕ) : Type 0 where
   pub track : t < s
@@ -44,7 +50,7 @@ pub record Touching (n s : ℕ) (e : ℕ → ℕ → ℤ) (t i : ℕ) : Type 0 w
 
 -- a fault at wire i on track t, with its kind
 abbrev pub Fault : (n s : ℕ) (a c : ℕ → ℤ) (e : ℕ → ℕ → ℤ) (t i : ℕ) → Type 0
-Fault n s a c e t i = WrongStart a e t i ⊎ WrongEnd s c e t i ⊎ Touching n s e t i
+Fault n s a c e t i = WrongStart a e t i ⊎ WrongEnd s c e t i ⊎ StepsAside s e t i ⊎ Touching n s e t i
 
 -- no fault at wire i on any track, and none at all
 abbrev pub WireClear : (n s : ℕ) (a c : ℕ → ℤ) (e : ℕ → ℕ → ℤ) (i : ℕ) → Type 0
@@ -72,11 +78,14 @@ startWrong a e t i = cond (eqb t 0) (differ (e i 0) (a i)) false
 unfoldable pub endWrong : (s : ℕ) (c : ℕ → ℤ) (e : ℕ → ℕ → ℤ) (t i : ℕ) → Bool
 endWrong s c e t i = cond (eqb t s) (differ (e i s) (c i)) false
 
+unfoldable pub stepsAside : (s : ℕ) (e : ℕ → ℕ → ℤ) (t i : ℕ) → Bool
+stepsAside s e t i = cond (eqb t 0) (cond (ltb 0 s) (differ (e i 1) (e i 0)) false) false
+
 unfoldable pub runTouches : (n s : ℕ) (e : ℕ → ℕ → ℤ) (t i : ℕ) → Bool
 runTouches n s e t i = cond (ltb t s) (cond (ltb (suc i) n) (leZ (leftmost e (suc i) t) (rightmost e i t)) false) false
 
 unfoldable pub faultAt : (n s : ℕ) (a c : ℕ → ℤ) (e : ℕ → ℕ → ℤ) (t i : ℕ) → Bool
-faultAt n s a c e t i = cond (startWrong a e t i) true (cond (endWrong s c e t i) true (runTouches n s e t i))
+faultAt n s a c e t i = cond (startWrong a e t i) true (cond (endWrong s c e t i) true (cond (stepsAside s e t i) true (runTouches n s e t i)))
 
 -- the first of the k wires from i on with a fault on track t, and then the first on the k tracks from t on
 unfoldable pub wireFault : (wrong : ℕ → Bool) (t i k : ℕ) → Checked

@@ -1,4 +1,4 @@
--- What is drawn (01, "Drawing and checking"; refusals 1 to 7, WIRE, BUFFER and NOFIT), and what the two calls promise.
+-- What is drawn (01, "Drawing and checking"; 02, #106; refusals 1 to 7, WIRE, BUFFER and NOFIT), and what the two calls promise.
 use mathlib.Core.Bool.{Bool, false}
 use mathlib.Core.Path.{_≡_}
 use mathlib.Core.List.{List, _++_}
@@ -20,7 +20,7 @@ use Rattle.jumper.specs.declared.rows.Checked.the-variants.{Accepted, Refused}
 use Rattle.fit.specs.Misfit.{misfitOf, noFit, Witness}
 use Rattle.route.specs.Table.{columnIn, columns, wires, noRoom, LegalRoute}
 
--- the columns that 01 gives wire i, and the wires that they mean
+-- the columns that we give wire i, and the wires that they mean
 abbrev pub drawnOf : (a b : List ℤ) (d : ℤ) → ℕ → ℕ → ℤ
 drawnOf a b d i t = drawn (length a) (pad a) (topPad b d) i t
 

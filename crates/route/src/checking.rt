@@ -10,7 +10,7 @@ ghost use Rattle.wiring.specs.Wiring.{pad, topPad};
 ghost use Rattle.jumper.specs.Limits.{maxPairs, maxTracks};
 ghost use Rattle.jumper.specs.Asked.{Asked};
 ghost use Rattle.route.specs.Table.{columnIn};
-ghost use Rattle.route.specs.Check.{rightmost, leftmost, WireClear, NoFault, RunsApart, startWrong, endWrong, runTouches, faultOf, wireFault, firstFault, RouteCheck};
+ghost use Rattle.route.specs.Check.{rightmost, leftmost, WireClear, NoFault, RunsApart, startWrong, endWrong, stepsAside, runTouches, faultOf, wireFault, firstFault, RouteCheck};
 use crate::column::top_pad;
 use crate::drawing::places;
 use jumper::asked::check_asked;
@@ -79,6 +79,18 @@ fn end_wrong(a: &[i32], b: &[i32], s: usize, d: i32, table: &[i32], t: usize, i:
     false
 }
 
+fn steps_aside(n: usize, s: usize, table: &[i32], t: usize, i: usize) -> bool
+    requires { ⌜ (s ≤ maxTracks) × (n * (s + 1) ≤ length (now table)) × (i < n) ⌝ }
+    ensures { λ r. ⌜ r ≡ stepsAside s (columnIn (now (table .entry)) s) t i ⌝ }
+{
+    if t == 0 {
+        if 1 <= s {
+            return whole::differs(column_in(table, s, i, 1), column_in(table, s, i, 0));
+        }
+    }
+    false
+}
+
 fn run_touches(n: usize, s: usize, table: &[i32], t: usize, i: usize) -> bool
     requires { ⌜ (s ≤ maxTracks) × (n * (s + 1) ≤ length (now table)) × (i < n) × (t ≤ s) ⌝ }
     ensures { λ r. ⌜ r ≡ runTouches n s (columnIn (now (table .entry)) s) t i ⌝ }
@@ -99,6 +111,9 @@ fn fault_at(a: &[i32], b: &[i32], s: usize, d: i32, table: &[i32], t: usize, i: 
         return true;
     }
     if end_wrong(a, b, s, d, table, t, i) {
+        return true;
+    }
+    if steps_aside(a.len(), s, table, t, i) {
         return true;
     }
     run_touches(a.len(), s, table, t, i)
@@ -184,6 +199,9 @@ fn wire_clear(a: &[i32], b: &[i32], s: usize, d: i32, table: &[i32], i: usize) -
         return false;
     }
     if end_wrong(a, b, s, d, table, s, i) {
+        return false;
+    }
+    if steps_aside(a.len(), s, table, 0, i) {
         return false;
     }
     if i + 1 < a.len() {

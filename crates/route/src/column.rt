@@ -4,9 +4,10 @@ ghost use Prim.Native.Nat.{_+_, _≤_, _<_};
 ghost use lib.ListN.{length};
 ghost use lib.IntN.{pos, _+ℤ_, _-ℤ_};
 ghost use Rattle.wiring.specs.Wiring.{pad, topPad};
-ghost use Rattle.wiring.specs.Drawing.{rightward, leftward, entry};
+ghost use Rattle.wiring.specs.Drawing.{rightward, leftward, entry, columnAt};
 ghost use Rattle.jumper.specs.Limits.{maxTracks, AcceptedOffset};
 ghost use Rattle.jumper.specs.Rows.{AcceptedRow};
+use jumper::serves::rule_at;
 
 // As far right as pad k lets a wire come that is t tracks up and t pads before it.
 fn right_limit(a: &[i32], k: usize, t: usize) -> i32
@@ -48,8 +49,8 @@ pub(crate) fn top_pad(b: &[i32], i: usize, d: i32) -> i32
     b[i] + d
 }
 
-// The column on which wire i enters track t, if it ends on column c.
-pub(crate) fn column(a: &[i32], c: i32, i: usize, t: usize) -> i32
+// 01's column e_t of wire i, if it ends on column c.
+fn entry_of(a: &[i32], c: i32, i: usize, t: usize) -> i32
     requires { ⌜ AcceptedRow (now a) × (i < length (now a)) × (t ≤ maxTracks) ⌝ }
     ensures { λ r. ⌜ r ≡ entry (length (now (a .entry))) (pad (now (a .entry))) c i t ⌝ }
 {
@@ -63,4 +64,12 @@ pub(crate) fn column(a: &[i32], c: i32, i: usize, t: usize) -> i32
         return going_right(a, c, i, t);
     }
     c
+}
+
+// The column on which wire i enters track t, if it ends on column c: 01's, with one straight step below.
+pub(crate) fn column(a: &[i32], c: i32, i: usize, t: usize) -> i32
+    requires { ⌜ AcceptedRow (now a) × (i < length (now a)) × (t ≤ maxTracks) ⌝ }
+    ensures { λ r. ⌜ r ≡ columnAt (length (now (a .entry))) (pad (now (a .entry))) c i t ⌝ }
+{
+    entry_of(a, c, i, rule_at(t))
 }

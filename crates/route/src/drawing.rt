@@ -1,10 +1,10 @@
-// Drawing a route: the columns on which wires enter each track (01, "Drawing and checking").
+// Drawing a route: the columns on which wires enter each track (01, "Drawing and checking"; 02, #106).
 ghost use mathlib.Core.Path.{_≡_};
 ghost use mathlib.Core.List.{_++_};
 ghost use Prim.Native.Nat.{_+_, _*_, _≤_, _<_, min};
 ghost use lib.ListN.{length, drop};
 ghost use Rattle.wiring.specs.Wiring.{pad};
-ghost use Rattle.wiring.specs.Drawing.{rightward, leftward};
+ghost use Rattle.wiring.specs.Drawing.{rightward, leftward, entry};
 ghost use Rattle.jumper.specs.Limits.{maxPairs, maxTracks};
 ghost use Rattle.jumper.specs.Rows.{AcceptedRow};
 ghost use Rattle.jumper.specs.Asked.{Asked};
@@ -124,35 +124,46 @@ fn straight(c: i32, k: usize, out: &mut [i32])
     }
 }
 
-fn draw_right(a: &[i32], c: i32, i: usize, s: usize, out: &mut [i32])
-    requires { ⌜ AcceptedRow (now a) × (length (now a) ≤ maxPairs) × (i < length (now a)) × (s ≤ maxTracks) × (s < length (now out)) ⌝ }
-    ensures { λ r. ⌜ now (out .exit) ≡ columns (rightward (length (now (a .entry))) (pad (now (a .entry))) c i) (s + 1) ++ drop (s + 1) (now (out .entry)) ⌝ }
+// The first k of 01's columns of a wire from pad i to column c, to its right.
+fn draw_right(a: &[i32], c: i32, i: usize, k: usize, out: &mut [i32])
+    requires { ⌜ AcceptedRow (now a) × (length (now a) ≤ maxPairs) × (i < length (now a)) × (k ≤ length (now out)) ⌝ }
+    ensures { λ r. ⌜ now (out .exit) ≡ columns (rightward (length (now (a .entry))) (pad (now (a .entry))) c i) k ++ drop k (now (out .entry)) ⌝ }
 {
-    let k = fewer(s + 1, a.len() - i);
-    held_right(a, c, i, k, out);
-    straight(c, s + 1 - k, &mut out[k..]);
+    let held = fewer(k, a.len() - i);
+    held_right(a, c, i, held, out);
+    straight(c, k - held, &mut out[held..]);
 }
 
-fn draw_left(a: &[i32], c: i32, i: usize, s: usize, out: &mut [i32])
-    requires { ⌜ AcceptedRow (now a) × (length (now a) ≤ maxPairs) × (i < length (now a)) × (s ≤ maxTracks) × (s < length (now out)) ⌝ }
-    ensures { λ r. ⌜ now (out .exit) ≡ columns (leftward (pad (now (a .entry))) c i) (s + 1) ++ drop (s + 1) (now (out .entry)) ⌝ }
+// The same to its left.
+fn draw_left(a: &[i32], c: i32, i: usize, k: usize, out: &mut [i32])
+    requires { ⌜ AcceptedRow (now a) × (length (now a) ≤ maxPairs) × (i < length (now a)) × (k ≤ length (now out)) ⌝ }
+    ensures { λ r. ⌜ now (out .exit) ≡ columns (leftward (pad (now (a .entry))) c i) k ++ drop k (now (out .entry)) ⌝ }
 {
-    let k = fewer(s + 1, i + 1);
-    held_left(a, c, i, k, out);
-    straight(c, s + 1 - k, &mut out[k..]);
+    let held = fewer(k, i + 1);
+    held_left(a, c, i, held, out);
+    straight(c, k - held, &mut out[held..]);
 }
 
-// Wire i into the first s + 1 places. The direction is chosen once for the whole wire.
+// The first k of 01's columns of a wire from pad i to column c. The direction is chosen once for the whole wire.
+fn draw_above(a: &[i32], c: i32, i: usize, k: usize, out: &mut [i32])
+    requires { ⌜ AcceptedRow (now a) × (length (now a) ≤ maxPairs) × (i < length (now a)) × (k ≤ length (now out)) ⌝ }
+    ensures { λ r. ⌜ now (out .exit) ≡ columns (entry (length (now (a .entry))) (pad (now (a .entry))) c i) k ++ drop k (now (out .entry)) ⌝ }
+{
+    if c < a[i] {
+        draw_left(a, c, i, k, out);
+    } else {
+        draw_right(a, c, i, k, out);
+    }
+}
+
+// Wire i into the first s + 1 places: its pad's column on track 0, and 01's columns above it.
 fn draw_columns(a: &[i32], b: &[i32], s: usize, d: i32, i: usize, out: &mut [i32])
     requires { ⌜ Asked (now a) (now b) s d × (i < length (now a)) × (s < length (now out)) ⌝ }
     ensures { λ r. ⌜ now (out .exit) ≡ wireDrawn (now (a .entry)) (now (b .entry)) s d i (now (out .entry)) ⌝ }
 {
     let c = top_pad(b, i, d);
-    if c < a[i] {
-        draw_left(a, c, i, s, out);
-    } else {
-        draw_right(a, c, i, s, out);
-    }
+    out[0] = a[i];
+    draw_above(a, c, i, s, &mut out[1..]);
 }
 
 // Wire after wire into the first n(s + 1) places. The place of the next wire is kept, so that no product is taken.

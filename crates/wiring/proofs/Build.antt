@@ -5,6 +5,7 @@ use mathlib.Core.List.{List, [], _∷_}
 use mathlib.Core.Logic.{_⊎_, inl, inr, ⊎-elim, _↔_}
 use Prim.Native.Nat.{ℕ, zero, suc, _+_, _-_, _≤_, _<_}
 use native.Mathlib.Decide.{ℕ-discrete}
+use native.Mathlib.Numerals.{add-one}
 use native.Mathlib.Omega.{arith}
 use lib.IntN.{ℤ, pos, _-ℤ_, natAbs}
 use lib.Signed.{_≤ℤ_, _<ℤ_}
@@ -13,7 +14,7 @@ use Rattle.whole.proofs.Order.{le-true, le-false}
 use Rattle.whole.proofs.Machine.{abs-is}
 use Rattle.wiring.specs.Wiring.{Point, at, Beside, Wire, On}
 use Rattle.wiring.specs.Table.{east, west, steps, along, upFrom, wireOf, Between, Fills, LegalTable}
-use Rattle.wiring.proofs.Walk.{Among, on-among, among-on, Leads, wire-walk, walk-wire, same-point}
+use Rattle.wiring.proofs.Walk.{Among, on-among, among-on, Leads, Lifted, wire-walk, walk-wire, same-point}
 
 -- how far y is to the right of x
 gap : (x y : ℤ) → x ≤ℤ y → up x + down y + natAbs (y -ℤ x) ≡ up y + down x
@@ -124,10 +125,32 @@ up-leads e t (suc m) s h =
     along-leads (e t) (e (suc t)) s t (e s) _ (omega arith)
     (omega arith, inr (refl, inl (omega arith)), up-leads e (suc t) m s (omega arith))
 
+-- a run from a column to itself has no points but its first
+along-nowhere : (x y : ℤ) (t : ℕ) (rest : List Point) → y ≡ x → along x y t rest ≡ rest
+unfolding steps
+along-nowhere x y t rest e =
+    let le : x ≤ℤ y = omega arithℤ in
+    let k : natAbs (y -ℤ x) ≡ 0 = omega (arithℤ, gap x y le) in
+    to-east x y t rest le ∙ rw k
+
+up-high : (e : ℕ → ℤ) (t m : ℕ) (q : Point) → Among q (upFrom e t m) → t ≤ q .track
+unfolding upFrom
+up-high e t zero q on = absurd on
+up-high e t (suc m) q on =
+    ⊎-elim (λ k. omega (arith, k .0))
+    (λ k. ⊎-elim (λ h. omega (arith, ap (λ (p : Point). p .track) h)) (λ h. omega (arith, up-high e (suc t) m q h)) k)
+    (along-on (e t) (e (suc t)) t _ q on)
+
+-- where the wire goes straight up from its pad, none of its other points stands on track 0
+up-lifted : (e : ℕ → ℤ) (s : ℕ) → (0 < s → e 1 ≡ e 0) → Lifted (upFrom e 0 s)
+unfolding upFrom
+up-lifted e zero rises q on = absurd on
+up-lifted e (suc m) rises q on = ⊎-elim (λ h z. omega (arith, ap (λ (p : Point). p .track) h)) (λ h z. omega (arith, up-high e 1 m q h)) (rw (along-nowhere (e 0) (e 1) 0 _ (rises (omega arith))) at on)
+
 -- every column of the table is joined to the next: the list is a wire
-pub wire-wire : (e : ℕ → ℤ) (s : ℕ) → Wire s (e 0) (e s) (wireOf e s)
+pub wire-wire : (e : ℕ → ℤ) (s : ℕ) → (0 < s → e 1 ≡ e 0) → Wire s (e 0) (e s) (wireOf e s)
 unfolding wireOf
-wire-wire e s = walk-wire s (e 0) (e s) (wireOf e s) (refl, up-leads e 0 s s (omega arith))
+wire-wire e s rises = walk-wire s (e 0) (e s) (wireOf e s) (refl, up-leads e 0 s s (omega arith), up-lifted e s rises)
 
 at-fills : (e : ℕ → ℤ) (s t : ℕ) (q : Point) → t ≤ s → q ≡ at (e t) t → Fills e s q
 at-fills e s t q le h =
@@ -185,9 +208,19 @@ pub wire-ends : (e : ℕ → ℤ) (s : ℕ) (a c : ℤ) → Wire s a c (wireOf e
 unfolding wireOf
 wire-ends e s a c w = leads-end s (e s) c (at (e 0) 0) (upFrom e 0 s) (up-leads e 0 s s (omega arith)) (wire-walk s a c (wireOf e s) w .1)
 
--- each wire keeps to the left of those after it, on each track and from each track to the next
+-- and it leaves track 0 straight up, on its first column: it goes through its second column on track 0, so that is its first point
+pub wire-rises : (e : ℕ → ℤ) (s : ℕ) (a c : ℤ) → Wire s a c (wireOf e s) → 0 < s → e 1 ≡ e 0
+unfolding wireOf
+wire-rises e s a c w h = go (wire-fills e s (at (e 1) 0) .1 (inl (h, ⊎-elim (λ o. inl (o, omega arithℤ)) (λ o. inr (omega arithℤ, omega arithℤ)) (≤-or-< (e 0) (e 1)))))
+  where
+    go : On (at (e 1) 0) (wireOf e s) → e 1 ≡ e 0
+    go (zero, l, p) = ap (λ (z : Point). z .column) (sym p)
+    go (suc k, l, p) = absurd (w .leaves k (omega arith) (rw (add-one k) (ap (λ (z : Point). z .track) p)))
+
+-- each wire goes straight up from its pad, and keeps to the left of those after it, on each track and from each track to the next
 pub record Ordered (n s : ℕ) (a c : ℕ → ℤ) (e : ℕ → ℕ → ℤ) : Type 0 where
   pub bottom : (i : ℕ) → i < n → e i 0 ≡ a i
+  pub rises : (i : ℕ) → i < n → 0 < s → e i 1 ≡ e i 0
   pub top : (i : ℕ) → i < n → e i s ≡ c i
   pub clear : (i j : ℕ) → i < j → j < n → (t t′ : ℕ) → t ≤ s → t′ ≤ s → t ≤ suc t′ → t′ ≤ suc t → e i t <ℤ e j t′
 
@@ -208,7 +241,7 @@ stands e s q (inl f) =
 stands e s q (inr f) = record { lo = s; hi = s; lo-at = omega arith; hi-at = omega arith; right-of = omega (arithℤ, f .1); left-of = omega (arithℤ, f .1) }
 
 pub ordered-legal : {n s : ℕ} {a c : ℕ → ℤ} {e : ℕ → ℕ → ℤ} → Ordered n s a c e → LegalTable n s a c e
-ordered-legal {n} {s} {a} {c} {e} T = record { wires = λ i lt. rw (← T .bottom i lt, ← T .top i lt) (wire-wire (e i) s); apart = λ i j lt lt′ p x y. clash i j lt lt′ p (stands (e i) s p (wire-fills (e i) s p .0 x)) (stands (e j) s p (wire-fills (e j) s p .0 y)) }
+ordered-legal {n} {s} {a} {c} {e} T = record { wires = λ i lt. rw (← T .bottom i lt, ← T .top i lt) (wire-wire (e i) s (T .rises i lt)); apart = λ i j lt lt′ p x y. clash i j lt lt′ p (stands (e i) s p (wire-fills (e i) s p .0 x)) (stands (e j) s p (wire-fills (e j) s p .0 y)) }
   where
     clash : (i j : ℕ) → i < j → j < n → (p : Point) → Stands (e i) s p → Stands (e j) s p → ⊥
     clash i j lt lt′ p x y = omega (arithℤ, x .left-of, y .right-of, T .clear i j lt lt′ (x .hi) (y .lo) (omega (arith, x .hi-at)) (omega (arith, y .lo-at)) (omega (arith, x .hi-at, y .lo-at)) (omega (arith, x .hi-at, y .lo-at)))

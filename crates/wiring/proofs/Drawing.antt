@@ -1,4 +1,4 @@
--- Sufficient: 01's drawing is one clamp, its runs never touch, and it ends on the top pads exactly where the rule holds.
+-- Sufficient: 01's drawing is one clamp, its runs never touch, and it ends on the top pads exactly where the rule holds; one straight step below it, it is ours.
 use mathlib.Core.Path.{_≡_, refl, ap}
 use mathlib.Core.Bool.{Bool, true, false, cond}
 use mathlib.Core.Logic.{_⊎_, inl, inr, ⊎-elim}
@@ -13,7 +13,9 @@ use Rattle.whole.proofs.Arith.{up, down, arithℤ, sum, dif}
 use Rattle.whole.proofs.Order.{true-lt, false-lt, larger-law, smaller-law}
 use Rattle.wiring.specs.Fit.{Rising}
 use Rattle.wiring.specs.Drawing.{rightward, leftward, entry, drawn}
+use Rattle.wiring.specs.Tracks.{ruleAt}
 use Rattle.wiring.proofs.Rule.{spread, rising-less}
+use Rattle.wiring.proofs.Serves.{rule-zero, rule-next, rule-near}
 use Rattle.wiring.proofs.Build.{Ordered}
 
 -- All that is needed of the column z on which a wire enters track t: it is c, held from the left by pad i - t and from the right by pad i + t.
@@ -85,14 +87,18 @@ abbrev pub Clear : (n s : ℕ) (a c : ℕ → ℤ) → Type 0
 Clear n s a c = (i : ℕ) → i + s < n → ((a i +ℤ pos s) ≤ℤ c (i + s)) × ((c i +ℤ pos s) ≤ℤ a (i + s))
 
 module _ (n : ℕ) (a c : ℕ → ℤ) (ra : Rising n a) (rc : Rising n c) where
-  law : (i t : ℕ) → i < n → Clamped n a (c i) i t (drawn n a c i t)
+  -- 01's column of wire i
+  abbrev e : ℕ → ℕ → ℤ
+  e i t = entry n a (c i) i t
+
+  law : (i t : ℕ) → i < n → Clamped n a (c i) i t (e i t)
   law i t h = entry-clamped n a ra (c i) i t h
 
   -- its runs are in order, whether or not the rule holds
-  pub drawn-less : (i j : ℕ) → i < j → j < n → (t t′ : ℕ) → t ≤ suc t′ → t′ ≤ suc t → drawn n a c i t <ℤ drawn n a c j t′
-  drawn-less i j lt lt′ t t′ h k =
-      let x : Clamped n a (c i) i t (drawn n a c i t) = law i t (omega arith) in
-      let y : Clamped n a (c j) j t′ (drawn n a c j t′) = law j t′ lt′ in
+  entry-less : (i j : ℕ) → i < j → j < n → (t t′ : ℕ) → t ≤ suc t′ → t′ ≤ suc t → e i t <ℤ e j t′
+  entry-less i j lt lt′ t t′ h k =
+      let x : Clamped n a (c i) i t (e i t) = law i t (omega arith) in
+      let y : Clamped n a (c j) j t′ (e j t′) = law j t′ lt′ in
       ⊎-elim
       (λ p. ⊎-elim (λ q. omega (arithℤ, rising-less rc i j lt lt′))
       (λ q. omega (arithℤ, q .1, x .upper (omega (arith, q .0)), dif (a (i + t)) (pos t), dif (a (j + t′)) (pos t′), sum (a (i + t)) (pos (j + t′ - (i + t))), spread ra (j + t′ - (i + t)) (i + t) (j + t′) (omega arith) (q .0)))
@@ -100,16 +106,26 @@ module _ (n : ℕ) (a c : ℕ → ℤ) (ra : Rising n a) (rc : Rising n c) where
       (λ p. omega (arithℤ, p .1, y .lower (omega (arith, p .0)), sum (a (i - t)) (pos t), sum (a (j - t′)) (pos t′), sum (a (i - t)) (pos (j - t′ - (i - t))), spread ra (j - t′ - (i - t)) (i - t) (j - t′) (omega (arith, p .0)) (omega arith)))
       (x .below)
 
-  pub drawn-bottom : (i : ℕ) → drawn n a c i 0 ≡ a i
-  unfolding entry
-  drawn-bottom i = refl
-
-  pub drawn-top : (s : ℕ) → Clear n s a c → (i : ℕ) → i < n → drawn n a c i s ≡ c i
-  drawn-top s clear i h =
+  entry-top : (s : ℕ) → Clear n s a c → (i : ℕ) → i < n → e i s ≡ c i
+  entry-top s clear i h =
       let x = law i s h in
-      let le : drawn n a c i s ≤ℤ c i = ⊎-elim (λ p. p) (λ p. let g : c (i - s + s) ≡ c i = ap c (omega (arith, p .0)) in omega (arithℤ, p .1, clear (i - s) (omega (arith, p .0)) .0)) (x .below) in
-      let ge : c i ≤ℤ drawn n a c i s = ⊎-elim (λ p. p) (λ p. omega (arithℤ, p .1, clear i (p .0) .1, sum (c i) (pos s), dif (a (i + s)) (pos s))) (x .above) in
+      let le : e i s ≤ℤ c i = ⊎-elim (λ p. p) (λ p. let g : c (i - s + s) ≡ c i = ap c (omega (arith, p .0)) in omega (arithℤ, p .1, clear (i - s) (omega (arith, p .0)) .0)) (x .below) in
+      let ge : c i ≤ℤ e i s = ⊎-elim (λ p. p) (λ p. omega (arithℤ, p .1, clear i (p .0) .1, sum (c i) (pos s), dif (a (i + s)) (pos s))) (x .above) in
       omega arithℤ
 
-  pub drawn-ordered : (s : ℕ) → Clear n s a c → Ordered n s a c (drawn n a c)
-  drawn-ordered s clear = record { bottom = λ i h. drawn-bottom i; top = drawn-top s clear; clear = λ i j lt lt′ t t′ _ _ h k. drawn-less i j lt lt′ t t′ h k }
+  -- on its pad's column the wire enters track 0, and track 1 too
+  pub drawn-bottom : (i : ℕ) → drawn n a c i 0 ≡ a i
+  unfolding entry
+  drawn-bottom i = rw rule-zero
+
+  drawn-rises : (i : ℕ) → drawn n a c i 1 ≡ drawn n a c i 0
+  drawn-rises i = rw (rule-next 0, rule-zero)
+
+  pub drawn-ordered : (s : ℕ) → Clear n (ruleAt s) a c → Ordered n s a c (drawn n a c)
+  drawn-ordered s clear =
+      record {
+        bottom = λ i h. drawn-bottom i;
+        rises = λ i h _. drawn-rises i;
+        top = entry-top (ruleAt s) clear;
+        clear = λ i j lt lt′ t t′ _ _ h k. entry-less i j lt lt′ (ruleAt t) (ruleAt t′) (rule-near t t′ h) (rule-near t′ t k);
+      }

@@ -1,4 +1,4 @@
--- The mirror law: the jumper seen from behind (columns negated, order of pairs and sign of the offset turned) fits exactly where the jumper does,
+-- The mirror law, of the rule and of wirings: the jumper seen from behind (columns negated, order of pairs and sign of the offset turned) fits exactly where the jumper does,
 -- and a witness there is the witness here with its pads counted from the other end and its side exchanged.
 use mathlib.Core.Path.{_≡_, refl, ap}
 use mathlib.Core.Logic.{_↔_}
@@ -6,7 +6,10 @@ use Prim.Native.Nat.{ℕ, suc, _+_, _-_, _<_}
 use native.Mathlib.Omega.{arith}
 use lib.IntN.{ℤ, pos, negℤ, _-ℤ_}
 use Rattle.whole.proofs.Arith.{up, down, arithℤ, dif, neg}
+use Rattle.wiring.specs.Wiring.{Wirable}
+use Rattle.wiring.specs.Tracks.{ruleAt}
 use Rattle.wiring.specs.Fit.{lean, Rising, lowEnd, highEnd, Fits, TooRight, TooLeft, behind}
+use Rattle.wiring.proofs.Theorem.{shifted, fit-exactly}
 
 pub behind-rising : (n : ℕ) (a : ℕ → ℤ) → Rising n a → Rising n (behind n a)
 behind-rising n a r i h =
@@ -113,3 +116,11 @@ module _ (n s : ℕ) (a b : ℕ → ℤ) (d : ℤ) where
     (λ l. (l .inside, record { inside = omega (arith, l .inside); above = omega (arithℤ, l .under, low-turned n s a b i (l .inside), neg d, neg (highEnd (lean a) (lean b) s (turned n s i))) })),
     (λ r. record { inside = r .0; under = omega (arithℤ, r .1 .above, low-turned n s a b i (r .0), neg d, neg (highEnd (lean a) (lean b) s (turned n s i))) }),
   )
+
+-- THE MIRROR LAW OF WIRINGS, over as many tracks
+pub mirror-wiring : (n s : ℕ) (a b : ℕ → ℤ) (d : ℤ) → Rising n a → Rising n b → Wirable n s (behind n a) (shifted (behind n b) (negℤ d)) ↔ Wirable n s a (shifted b d)
+mirror-wiring n s a b d ra rb =
+    let back = fit-exactly n s (behind n a) (behind n b) (negℤ d) (behind-rising n a ra) (behind-rising n b rb) in
+    let front = fit-exactly n s a b d ra rb in
+    let turn = mirror n (ruleAt s) a b d in
+    ((λ w. front .1 (turn .0 (back .0 w))), (λ w. back .1 (turn .1 (front .0 w))))

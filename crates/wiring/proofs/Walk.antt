@@ -1,8 +1,8 @@
 -- A wire taken apart from its first point on, as the proofs go, and that this is the wire of the definitions.
-use mathlib.Core.Path.{_≡_, ap, sym}
+use mathlib.Core.Path.{_≡_, refl, ap, sym}
 use mathlib.Core.List.{List, [], _∷_}
-use mathlib.Core.Logic.{_⊎_, inl, inr}
-use Prim.Native.Nat.{ℕ, zero, suc, _-_, _≤_, _<_}
+use mathlib.Core.Logic.{_⊎_, inl, inr, _≢_}
+use Prim.Native.Nat.{ℕ, zero, suc, _+_, _-_, _≤_, _<_}
 use native.Mathlib.Decide.{ℕ-discrete}
 use native.Mathlib.Numerals.{add-one}
 use native.Mathlib.Omega.{arith}
@@ -36,9 +36,13 @@ abbrev pub Leads : ℕ → ℤ → Point → List Point → Type 0
 Leads s c p [] = p ≡ at c s
 Leads s c p (q ∷ r) = (p .track < s) × Step p q × Leads s c q r
 
+-- no point of r stands on track 0
+abbrev pub Lifted : List Point → Type 0
+Lifted r = (q : Point) → Among q r → q .track ≢ 0
+
 abbrev pub Walk : ℕ → ℤ → ℤ → List Point → Type 0
 Walk s a c [] = ⊥
-Walk s a c (p ∷ r) = (p ≡ at a 0) × Leads s c p r
+Walk s a c (p ∷ r) = (p ≡ at a 0) × Leads s c p r × Lifted r
 
 -- what the definition says of the points that follow p
 record Tail (s : ℕ) (c : ℤ) (p : Point) (r : List Point) : Type 0 where
@@ -69,7 +73,14 @@ pub wire-walk : (s : ℕ) (a c : ℤ) (w : List Point) → Wire s a c w → Walk
 wire-walk s a c [] h = omega (arith, h .some)
 wire-walk s a c (p ∷ r) h =
     let l : suc (length r) - 1 ≡ length r = omega arith in
-    (h .starts, leads-of s c p r (record { ends = rw l at (h .ends); steps = λ k lt. rw (add-one k) at (h .steps k (omega arith)); below = λ k lt. omega (arith, h .stays k (omega arith), h .below k (omega arith)) }))
+    (h .starts, leads-of s c p r (record { ends = rw l at (h .ends); steps = λ k lt. rw (add-one k) at (h .steps k (omega arith)); below = λ k lt. omega (arith, h .stays k (omega arith), h .below k (omega arith)) }), lifted)
+  where
+    lifted : Lifted r
+    lifted q among z =
+        let on = among-on q r among in
+        let k = on .0 in
+        let e : nth (p ∷ r) (k + 1) ≡ q = rw (add-one k) (on .2) in
+        h .leaves k (omega (arith, on .1)) (rw (← e) at z)
 
 pub walk-wire : (s : ℕ) (a c : ℤ) (w : List Point) → Walk s a c w → Wire s a c w
 walk-wire s a c [] h = absurd h
@@ -81,6 +92,7 @@ walk-wire s a c (p ∷ r) h =
       steps = λ k lt. rw (add-one k) (t .steps k (omega arith));
       stays = λ k lt. stays k lt (ℕ-discrete k (length r));
       below = λ k lt. omega (arith, t .below k (omega arith));
+      leaves = λ k lt. rw (add-one k) (h .2 (nth r k) (on-among (nth r k) r (k, omega arith, refl)));
     }
   where
     l : suc (length r) - 1 ≡ length r

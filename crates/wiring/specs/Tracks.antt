@@ -1,11 +1,14 @@
 -- WHICH SEPARATION THE RULE OF FIT SERVES. The rule (Fit.antt) is stated for a number and knows nothing of tracks: here stands at which number it is
 -- read for a separation. Every sentence that joins wirings to the rule, or to a pair that breaks it, goes through these two.
-use Prim.Native.Nat.{ℕ}
+--
+-- Worked: J's rule holds at 2 and not at 1. So it needs 3 tracks, and pads i and i + 1 prevent a wiring at 2.
+use Prim.Native.Nat.{ℕ, zero, suc, _-_}
 
--- "(s, d) fits exactly when ..": at separation s the rule is read at s
+-- 02, #106: "At separation 0 nothing changes; at t >= 1 a jumper fits where it fitted at t - 1 before." The difference is cut at 0
 unfoldable pub ruleAt : (separation : ℕ) → ℕ
-ruleAt s = s
+ruleAt t = t - 1
 
--- the least separation at which the rule is read at a number
+-- the least separation at which the rule is read at a number: "a least or best separation of 0 stays and any other grows by one"
 unfoldable pub tracksFor : (number : ℕ) → ℕ
-tracksFor r = r
+tracksFor zero = zero
+tracksFor (suc r) = suc (suc r)

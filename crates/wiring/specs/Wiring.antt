@@ -1,7 +1,8 @@
--- What a legal wiring is (01, "The jumper"; 003). For every reader: all that is said to exist, or not to, is a `Legal` of this file.
+-- What a legal wiring is (01, "The jumper"; 003), beside a stiffener at both ends (02, #106). For every reader: all that is said to exist, or not to,
+-- is a `Legal` of this file.
 --
--- Worked: rows 0,1 and 1,2 at offset 0. Two tracks do: 0 goes straight up to track 1, then right to 1; 1 goes right to 2 at once.
--- One track does not: wire 0 would have to leave track 0 on column 1, where bottom pad 1 stands.
+-- Worked: rows 0,1 and 1,2 at offset 0. Three tracks do: wire 1 goes up to track 1, right to column 2 and up; wire 0 goes up to track 2, right to column 1 and up.
+-- Two tracks don't: both would have to go right on track 1, and wire 0 would meet wire 1 where that comes up from its pad.
 use mathlib.Core.Path.{_≡_}
 use mathlib.Core.List.{List}
 use mathlib.Core.Logic.{_⊎_, _≢_}
@@ -41,6 +42,8 @@ pub record Wire (s : ℕ) (a c : ℤ) (w : List Point) : Type 0 where
   -- "It stays on tracks 0 to s, and only its last point is on track s."
   pub stays : (k : ℕ) → k < length w → nth w k .track ≤ s
   pub below : (k : ℕ) → k + 1 < length w → nth w k .track ≢ s
+  -- 02: "only a wire's first point may stand on track 0"
+  pub leaves : (k : ℕ) → k + 1 < length w → nth w (k + 1) .track ≢ 0
 
 -- p is one of the points of w
 abbrev pub On : Point → List Point → Type 0

@@ -1,4 +1,5 @@
 -- The jumpers worked by hand, 01's marked with a star and those of 02's requests, as one table: what the definitions tell, beside what is said by hand.
+-- A separation above 0 is one more than 01 has it, for 02's #106; sentences of 01 that still stand as they are stand in quotes.
 -- That the two are equal in every case is the theorem `worked` of proofs/Worked.antt.
 use mathlib.Core.List.{List, [], _∷_, map}
 use Prim.Native.Nat.{ℕ}
@@ -10,8 +11,10 @@ use Rattle.jumper.specs.declared.refusal.Numbers.{Numbers}
 use Rattle.fit.specs.Misfit.{fitOf}
 use Rattle.fit.specs.Least.{leastNumbers, leastAnswer}
 use Rattle.fit.specs.Offsets.{offsetsNumbers, offsetsAnswer}
+use Rattle.fit.specs.Stretch.{stretchOf}
 use Rattle.best.specs.Best.{bestNumbers, ladderOf, bestAnswer, ladderBy}
 use Rattle.route.specs.Draw.{allDrawn, bufferAfter, allRefusal}
+use Rattle.route.specs.Check.{routeChecked}
 
 pub record Jumper : Type 0 where
   pub bottom : List ℤ
@@ -33,6 +36,10 @@ K = rows (0 ∷ 5 ∷ []) (0 ∷ 5 ∷ [])
 
 abbrev pub S : Jumper
 S = rows (0 ∷ 1 ∷ 2 ∷ 3 ∷ []) (1 ∷ 2 ∷ 3 ∷ 4 ∷ [])
+
+-- 02, #106: T is worked out at the heads of wiring's Wiring.antt and route's Check.antt
+abbrev pub T : Jumper
+T = rows (0 ∷ 1 ∷ []) (1 ∷ 2 ∷ [])
 
 -- 02, #105: C has its pads around a centre pin, L is one pair on the first column; both are worked out at the head of jumper's Limits.antt
 abbrev pub C : Jumper
@@ -66,6 +73,12 @@ fitAt j s d = resultOf (checkedNumbers (fitOf (j .bottom) (j .top) s d))
 abbrev pub rangeAt : Jumper → ℕ → List ℤ
 rangeAt j s = resultOf (offsetsNumbers (offsetsAnswer (j .bottom) (j .top) s))
 
+abbrev pub stretchAt : Jumper → ℕ → ℤ → List ℤ
+stretchAt j s d = stretchOf (j .bottom) (j .top) s d
+
+abbrev pub checkedAt : Jumper → ℕ → ℤ → (table : List ℤ) → List ℤ
+checkedAt j s d table = resultOf (checkedNumbers (routeChecked (j .bottom) (j .top) s d table))
+
 abbrev pub best : Jumper → List ℤ
 best j = resultOf (bestNumbers (bestAnswer (j .bottom) (j .top) (replicate 24 0)))
 
@@ -87,6 +100,9 @@ least s i k = result 0 0 0 s (pos 0) (pos 0) i k 0
 abbrev pub prevented : (pair side : ℕ) → List ℤ
 prevented i k = result 10 0 0 0 (pos 0) (pos 0) i k 0
 
+abbrev pub badWire : (wire track : ℕ) → List ℤ
+badWire i t = result 16 i t 0 (pos 0) (pos 0) 0 0 0
+
 abbrev pub range : (lowest highest : ℤ) → List ℤ
 range l h = result 0 0 0 0 l h 0 0 0
 
@@ -98,38 +114,54 @@ found s l h c = result 0 0 0 s l h 0 0 c
 
 abbrev pub table : List Case
 table =
-    -- "0 and 0, d 0: least 0." "0 and 9, d 0: least 1."
+    -- "0 and 0, d 0: least 0." 0 and 9, d 0: least 2
     case (leastAt (rows (0 ∷ []) (0 ∷ [])) (pos 0)) (least 0 0 0)
-    ∷ case (leastAt (rows (0 ∷ []) (9 ∷ [])) (pos 0)) (least 1 0 1)
-    -- "0,1 and 1,2, d 0: least 2; at s 1 NOFIT, pair 0, RIGHT."
-    ∷ case (leastAt (rows (0 ∷ 1 ∷ []) (1 ∷ 2 ∷ [])) (pos 0)) (least 2 0 1)
-    ∷ case (fitAt (rows (0 ∷ 1 ∷ []) (1 ∷ 2 ∷ [])) 1 (pos 0)) (prevented 0 1)
-    -- "K: range at 0 is 0..0; at 1 is -4..4; d 5, least 2; (1, -5) NOFIT, pair 0, LEFT."
+    ∷ case (leastAt (rows (0 ∷ []) (9 ∷ [])) (pos 0)) (least 2 0 1)
+    -- T, d 0: least 3; at 2 NOFIT, pair 0, RIGHT
+    ∷ case (leastAt T (pos 0)) (least 3 0 1)
+    ∷ case (fitAt T 2 (pos 0)) (prevented 0 1)
+    -- "K: range at 0 is 0..0"; at 1 as at 0, at 2 is -4..4; d 5, least 3; (2, -5) NOFIT, pair 0, LEFT
     ∷ case (rangeAt K 0) (range (pos 0) (pos 0))
-    ∷ case (rangeAt K 1) (range (negsuc 3) (pos 4))
-    ∷ case (leastAt K (pos 5)) (least 2 0 1)
-    ∷ case (fitAt K 1 (negsuc 4)) (prevented 0 2)
-    -- "S, d 0: least 4." "S best: 0, offsets -1..-1, count 12."
-    ∷ case (leastAt S (pos 0)) (least 4 0 1)
+    ∷ case (rangeAt K 1) (range (pos 0) (pos 0))
+    ∷ case (rangeAt K 2) (range (negsuc 3) (pos 4))
+    ∷ case (leastAt K (pos 5)) (least 3 0 1)
+    ∷ case (fitAt K 2 (negsuc 4)) (prevented 0 2)
+    -- S, d 0: least 5. "S best: 0, offsets -1..-1, count 12."
+    ∷ case (leastAt S (pos 0)) (least 5 0 1)
     ∷ case (best S) (found 0 (negsuc 0) (negsuc 0) 12)
-    -- "J best: 2, offsets -1..1, count 14, ladder 4:2, 2:1, 1:0." "J at 1: NOOFFSET, 2 for the low end, 0 for the high."
-    ∷ case (best J) (found 2 (negsuc 0) (pos 1) 14)
+    -- J best: 3, offsets -1..1, count 14, and as before "ladder 4:2, 2:1, 1:0." J at 2: NOOFFSET, 2 for the low end, 0 for the high
+    ∷ case (best J) (found 3 (negsuc 0) (pos 1) 14)
     ∷ case (ladder J (lent 8)) (whole (4 ∷ 2 ∷ 2 ∷ 1 ∷ 1 ∷ 0 ∷ 9 ∷ 9 ∷ []))
-    ∷ case (rangeAt J 1) (noOffset 2 0)
-    -- "J drawn at (2, 0): 0,0,1 / 1,2,2 / 4,3,3 / 5,5,4."
-    ∷ case (drawnAt J 2 (pos 0) (whole (lent 14))) (whole (0 ∷ 0 ∷ 1 ∷ 1 ∷ 2 ∷ 2 ∷ 4 ∷ 3 ∷ 3 ∷ 5 ∷ 5 ∷ 4 ∷ 9 ∷ 9 ∷ []))
-    -- C at 0: NOOFFSET, 0 for the low end, 2 for the high; range at 1 is 0..0, at 2 is -1..1, at 3 -131,070..131,070
+    ∷ case (rangeAt J 2) (noOffset 2 0)
+    -- J drawn at (3, 0): 0,0,0,1 / 1,1,2,2 / 4,4,3,3 / 5,5,5,4
+    ∷ case (drawnAt J 3 (pos 0) (whole (lent 18))) (whole (0 ∷ 0 ∷ 0 ∷ 1 ∷ 1 ∷ 1 ∷ 2 ∷ 2 ∷ 4 ∷ 4 ∷ 3 ∷ 3 ∷ 5 ∷ 5 ∷ 5 ∷ 4 ∷ 9 ∷ 9 ∷ []))
+    -- T's range at 0, at 1 and at 2, as many tracks as pairs, is -1..-1; at 3, -131,070..131,070
+    ∷ case (rangeAt T 0) (range (negsuc 0) (negsuc 0))
+    ∷ case (rangeAt T 1) (range (negsuc 0) (negsuc 0))
+    ∷ case (rangeAt T 2) (range (negsuc 0) (negsuc 0))
+    ∷ case (rangeAt T 3) (range (negsuc 131069) (pos 131070))
+    -- T, d 0: the stretch at fault is one pad at 0 and at 1, two at 2
+    ∷ case (stretchAt T 0 (pos 0)) (whole (0 ∷ []))
+    ∷ case (stretchAt T 1 (pos 0)) (whole (0 ∷ []))
+    ∷ case (stretchAt T 2 (pos 0)) (whole (0 ∷ 1 ∷ []))
+    -- T drawn at (3, 0): 0,0,0,1 / 1,1,2,2, which the checker accepts; wire 1 may not step aside on track 0
+    ∷ case (drawnAt T 3 (pos 0) (whole (lent 9))) (whole (0 ∷ 0 ∷ 0 ∷ 1 ∷ 1 ∷ 1 ∷ 2 ∷ 2 ∷ 9 ∷ []))
+    ∷ case (checkedAt T 3 (pos 0) (whole (0 ∷ 0 ∷ 0 ∷ 1 ∷ 1 ∷ 1 ∷ 2 ∷ 2 ∷ []))) (least 0 0 0)
+    ∷ case (checkedAt T 3 (pos 0) (whole (0 ∷ 0 ∷ 0 ∷ 1 ∷ 1 ∷ 2 ∷ 2 ∷ 2 ∷ []))) (badWire 1 0)
+    ∷ case (checkedAt T 3 (pos 0) (whole (0 ∷ 0 ∷ 0 ∷ 1 ∷ 1 ∷ 0 ∷ 2 ∷ 2 ∷ []))) (badWire 0 0)
+    -- C at 0 and at 1: NOOFFSET, 0 for the low end, 2 for the high; range at 2 is 0..0, at 3 is -1..1, at 4 -131,070..131,070
     ∷ case (rangeAt C 0) (noOffset 0 2)
-    ∷ case (rangeAt C 1) (range (pos 0) (pos 0))
-    ∷ case (rangeAt C 2) (range (negsuc 0) (pos 1))
-    ∷ case (rangeAt C 3) (range (negsuc 131069) (pos 131070))
-    -- C best: 1, offsets 0..0, count 8; drawn there: -1,-2 / 0,0 / 1,2
-    ∷ case (best C) (found 1 (pos 0) (pos 0) 8)
-    ∷ case (drawnAt C 1 (pos 0) (whole (lent 7))) (negsuc 0 ∷ negsuc 1 ∷ pos 0 ∷ pos 0 ∷ pos 1 ∷ pos 2 ∷ pos 9 ∷ [])
-    -- C at the lowest offset: least 3; at 2 pair 0 prevents it, LEFT
-    ∷ case (leastAt C (negsuc 131069)) (least 3 0 2)
-    -- L drawn at (1, -131,070): column -65,535, then -196,605
-    ∷ case (drawnAt L 1 (negsuc 131069) (whole (lent 2))) (negsuc 65534 ∷ negsuc 196604 ∷ [])
+    ∷ case (rangeAt C 1) (noOffset 0 2)
+    ∷ case (rangeAt C 2) (range (pos 0) (pos 0))
+    ∷ case (rangeAt C 3) (range (negsuc 0) (pos 1))
+    ∷ case (rangeAt C 4) (range (negsuc 131069) (pos 131070))
+    -- C best: 2, offsets 0..0, count 8; drawn there: -1,-1,-2 / 0,0,0 / 1,1,2
+    ∷ case (best C) (found 2 (pos 0) (pos 0) 8)
+    ∷ case (drawnAt C 2 (pos 0) (whole (lent 10))) (negsuc 0 ∷ negsuc 0 ∷ negsuc 1 ∷ pos 0 ∷ pos 0 ∷ pos 0 ∷ pos 1 ∷ pos 1 ∷ pos 2 ∷ pos 9 ∷ [])
+    -- C at the lowest offset: least 4; at 3 pair 0 prevents it, LEFT
+    ∷ case (leastAt C (negsuc 131069)) (least 4 0 2)
+    -- L drawn at (2, -131,070): column -65,535 twice, then -196,605
+    ∷ case (drawnAt L 2 (negsuc 131069) (whole (lent 3))) (negsuc 65534 ∷ negsuc 65534 ∷ negsuc 196604 ∷ [])
     ∷ []
 
 -- the case at a place of the table

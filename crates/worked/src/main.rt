@@ -61,7 +61,7 @@ fn side_by_side() -> [i32; 2049]
     row
 }
 
-// "2,048 pairs pass, 2,049 LONG." With every top pad one column to the right, 2,048 pairs need as many tracks.
+// "2,048 pairs pass, 2,049 LONG." With every top pad one column to the right, 2,048 pairs need one track more, and no rows need more than that.
 fn pairs() {
     let row = side_by_side();
     let most = &row[..2048];
@@ -70,11 +70,11 @@ fn pairs() {
     show_place(b"2,049 pairs", fit(&row, &row, 0, 0).numbers());
 }
 
-// One pair at an offset, with a track between its pads.
+// One pair at an offset, at two tracks, where every offset fits.
 fn lone(below: i32, above: i32, offset: i32) -> Numbers {
     let a = [below];
     let b = [above];
-    fit(&a, &b, 1, offset).numbers()
+    fit(&a, &b, 2, offset).numbers()
 }
 
 // "Column 65,535 passes; 65,536 .. COLUMN"; 02, #105: "Columns become -65,535 to 65,535", so -1 passes
@@ -115,11 +115,11 @@ fn order() {
     show_place(b"columns 3, 3 above", fit(&once, &twice, 2, 0).numbers());
 }
 
-// "Separation 2,048 passes, 2,049 TRACKS."
+// 02, #106: "TRACKS is given above 2,049."
 fn separations() {
     let a = [0i32];
-    show_place(b"separation 2,048", fit(&a, &a, 2048, 0).numbers());
     show_place(b"separation 2,049", fit(&a, &a, 2049, 0).numbers());
+    show_place(b"separation 2,050", fit(&a, &a, 2050, 0).numbers());
 }
 
 // 1 where a wire from column p to column q, to its right, is over column x.
@@ -146,7 +146,7 @@ fn larger(x: usize, y: usize) -> usize {
     if x < y { y } else { x }
 }
 
-// "Counting only wires over a vertical line: S has at most 2 there and needs 4."
+// "Counting only wires over a vertical line: S has at most 2 there", and needs 5.
 fn over_a_line() {
     let a = [0i32, 1, 2, 3];
     let b = [1i32, 2, 3, 4];
@@ -158,17 +158,18 @@ fn over_a_line() {
     show_witness(b"S, offset 0", least_at(&a, &b, 0).numbers());
 }
 
-// The best separation, and that of the even half, from the ladder.
+// The best separation; from the ladder, the number inside it and that of the even half.
 fn show_halves(name: &[u8], a: &[i32], b: &[i32]) {
     let mut ladder = [0usize; 24];
     let n = best_of(a, b, &mut ladder).numbers();
     put(name);
     say(b": best ", n.separation);
+    say(b", inside ", ladder[1]);
     say(b", of its even half ", ladder[3]);
     put(b"\n");
 }
 
-// "Taking twice the even half's best as the best": it can be one less and one more.
+// "Taking twice the even half's best as the best": of the numbers inside it can be one less and one more.
 fn twice_the_half() {
     let c = [0i32, 2, 4];
     let d = [1i32, 2, 3];
@@ -181,19 +182,25 @@ fn twice_the_half() {
     show_halves(b"0,3 and 1,2", &e, &f);
 }
 
-// "Letting a wire run along track s: rows 0,1 and 1,2 at d 0 would then pass at 1." Both wires would go straight up, then along track 1.
-fn along_the_top() {
+// "Letting a wire run along track s": rows 0,1 and 1,2 at d 0 would then pass at 2, with wire 1 on track 1 and wire 0 on track 2. And they would pass at 2
+// if a wire might run along track 0: wire 1 there, where nobody is in its way, and wire 0 on track 1.
+fn along_the_stiffeners() {
     let a = [0i32, 1];
     let b = [1i32, 2];
-    let table = [0i32, 0, 1, 1];
-    show_witness(b"0,1 and 1,2 at 1, offset 0", fit(&a, &b, 1, 0).numbers());
+    let top = [0i32, 0, 0, 1, 1, 2];
+    let bottom = [0i32, 0, 1, 1, 2, 2];
+    show_witness(b"0,1 and 1,2 at 2, offset 0", fit(&a, &b, 2, 0).numbers());
     show_fault(
-        b"0,1 and 1,2 drawn 0,0 / 1,1",
-        check_route(&a, &b, 1, 0, &table).numbers(),
+        b"0,1 and 1,2 drawn 0,0,0 / 1,1,2",
+        check_route(&a, &b, 2, 0, &top).numbers(),
+    );
+    show_fault(
+        b"0,1 and 1,2 drawn 0,0,1 / 1,2,2",
+        check_route(&a, &b, 2, 0, &bottom).numbers(),
     );
 }
 
-// "Believing that one more pair costs at most one track: S needs 4 at d 0, but without its third pair (2 and 3) only 2."
+// "Believing that one more pair costs at most one track": S needs 5 at d 0, but without its third pair (2 and 3) only 3.
 fn one_pair_fewer() {
     let a = [0i32, 1, 3];
     let b = [1i32, 2, 4];
@@ -211,6 +218,6 @@ fn main() {
     separations();
     over_a_line();
     twice_the_half();
-    along_the_top();
+    along_the_stiffeners();
     one_pair_fewer();
 }

@@ -51,7 +51,7 @@ returns-2 c =
     let e = toZ-ofZ w32 (s .args .d) (s .fits .d) in
     let v = rw e at (k .loop .inv) in
     let found = sym (rw e at (m .misfit-from .ensures)) ∙ f .enum-told .given .1 in
-    rw (c .before .if2 .taken, ← (c .tracks-for .ensures)) at (seek-tracks (s .args .a .now) (s .args .b .now) (s .args .d) (s .pre) _ _ _ v found (pos-of-ne-zero (c .before .before .if1 .left)))
+    rw (c .before .if2 .taken) at (seek-tracks (s .args .a .now) (s .args .b .now) (s .args .d) (s .pre) _ _ _ v _ (c .tracks-for .ensures) found (pos-of-ne-zero (c .before .before .if1 .left)))
 
 tracks-for-requires-2 : tie.Need-tracks-for-requires-2 Inv-loop μ-loop
 tracks-for-requires-2 c κs = search needs
@@ -65,7 +65,7 @@ returns-3 c =
     let e = toZ-ofZ w32 (s .args .d) (s .fits .d) in
     let v = rw e at (k .loop .inv) in
     let found = sym (rw e at (m .misfit-from .ensures)) ∙ f .enum-told .given .1 in
-    rw (c .before .if2 .left, ← (c .tracks-for2 .ensures)) at (seek-tracks (s .args .a .now) (s .args .b .now) (s .args .d) (s .pre) _ _ _ v found (pos-of-ne-zero (c .before .before .if1 .left)))
+    rw (c .before .if2 .left) at (seek-tracks (s .args .a .now) (s .args .b .now) (s .args .d) (s .pre) _ _ _ v _ (c .tracks-for2 .ensures) found (pos-of-ne-zero (c .before .before .if1 .left)))
 
 enum-known-j : tie.Need-enum-known-j Inv-loop μ-loop
 enum-known-j c = search needs

@@ -1,11 +1,18 @@
-use mathlib.Core.Path.{refl}
+use native.Mathlib.Omega.{arith}
 use Rattle.wiring.specs.Tracks.{ruleAt}
 use Rattle.jumper.proofs.serves.rule_at.Statement.{statement}
 use Rattle.jumper.proofs.serves.rule_at.Tie as tie
 
 returns : tie.Need-returns
 unfolding ruleAt
-returns c = refl
+returns c = omega (arith, c .if1 .taken)
+
+sub-result : tie.Need-sub-result
+sub-result c = omega (arith, c .if1 .left)
+
+returns-2 : tie.Need-returns-2
+unfolding ruleAt
+returns-2 c = omega arith
 
 pub rule-at-spec : {M : Type 1} → statement M
-rule-at-spec = tie.close (tie.spec returns)
+rule-at-spec = tie.close (tie.spec returns sub-result returns-2)

@@ -1,81 +1,34 @@
-use mathlib.Core.Path.{sym, _∙_}
+use mathlib.Core.Path.{ap, _∙_}
+use native.Mathlib.Omega.{arith}
+use Prim.Native.Nat.{ℕ}
 use borrow.Author.Needs.{needs}
 use lib.ListN.{length}
 use mir.Syntax.{w32}
 use mir.ValLaws.{toZ-ofZ}
 use Rattle.whole.proofs.Machine.{back}
 use Rattle.wiring.specs.Wiring.{pad}
-use Rattle.route.proofs.Wires.{to-left, to-right, leftward-free, rightward-free}
+use Rattle.wiring.specs.Drawing.{entry}
+use Rattle.wiring.proofs.Serves.{rule-most}
 use Rattle.route.proofs.column.column.Statement.{statement}
 use Rattle.route.proofs.column.column.Tie as tie
 
-mul-if1 : tie.Need-mul-if1
-mul-if1 c = search needs
+rule-at-requires : tie.Need-rule-at-requires
+rule-at-requires c κs = search needs
 
-shared-slice-copy-out-if1 : tie.Need-shared-slice-copy-out-if1
-shared-slice-copy-out-if1 c = search needs
+entry-of-requires : tie.Need-entry-of-requires
+entry-of-requires c κs =
+    let s = c .before in
+    (s .pre .0, s .pre .1, omega (arith, s .pre .2, c .rule-at .ensures, rule-most (s .args .t)))
 
 returns : tie.Need-returns
 returns c =
-    let g = c .before .before .before in
-    let n = length (g .args .a .now) in
-    let a = pad (g .args .a .now) in
-    let ec = toZ-ofZ w32 (g .args .c) (g .fits .c) in
-    let ea = back (a (g .args .i)) (c .before .before .if12 .given) in
-    ec
-    ∙ sym (to-left n a (g .args .c) (g .args .i) (rw (ec, ea) at (c .before .if1 .taken)) (g .args .t)
-    ∙ leftward-free n a (g .args .c) (g .args .i) (g .args .t) (c .if2 .taken))
-
-going-left-requires : tie.Need-going-left-requires
-going-left-requires c κs = search needs
-
-returns-2 : tie.Need-returns-2
-returns-2 c =
-    let g = c .before .before .before .before in
-    let n = length (g .args .a .now) in
-    let a = pad (g .args .a .now) in
-    let ec = toZ-ofZ w32 (g .args .c) (g .fits .c) in
-    let ea = back (a (g .args .i)) (c .before .before .before .if12 .given) in
-    let l = c .going-left in
-    back (l .result) (l .ok) ∙ (rw ec at (l .ensures)) ∙ sym (to-left n a (g .args .c) (g .args .i) (rw (ec, ea) at (c .before .before .if1 .taken)) (g .args .t))
-
-add-if3 : tie.Need-add-if3
-add-if3 c = search needs
-
-going-right-requires : tie.Need-going-right-requires
-going-right-requires c κs = search needs
-
-returns-3 : tie.Need-returns-3
-returns-3 c =
-    let g = c .before .before .before .before in
-    let n = length (g .args .a .now) in
-    let a = pad (g .args .a .now) in
-    let ec = toZ-ofZ w32 (g .args .c) (g .fits .c) in
-    let ea = back (a (g .args .i)) (c .before .before .before .if12 .given) in
-    let r = c .going-right in
-    back (r .result) (r .ok) ∙ (rw ec at (r .ensures)) ∙ sym (to-right n a (g .args .c) (g .args .i) (g .pre .1) (rw (ec, ea) at (c .before .before .if1 .left)) (g .args .t))
-
-returns-4 : tie.Need-returns-4
-returns-4 c =
-    let g = c .before .before .before in
-    let n = length (g .args .a .now) in
-    let a = pad (g .args .a .now) in
-    let ec = toZ-ofZ w32 (g .args .c) (g .fits .c) in
-    let ea = back (a (g .args .i)) (c .before .before .if12 .given) in
-    ec
-    ∙ sym (to-right n a (g .args .c) (g .args .i) (g .pre .1) (rw (ec, ea) at (c .before .if1 .left)) (g .args .t)
-    ∙ rightward-free n a (g .args .c) (g .args .i) (g .args .t) (c .if3 .left))
+    let r = c .entry-of in
+    let k = c .before in
+    let s = k .before in
+    let ec = toZ-ofZ w32 (s .args .c) (s .fits .c) in
+    back (r .result) (r .ok)
+    ∙ (rw ec at (r .ensures))
+    ∙ ap (λ (t : ℕ). entry (length (s .args .a .now)) (pad (s .args .a .now)) (s .args .c) (s .args .i) t) (k .rule-at .ensures)
 
 pub column-spec : {M : Type 1} → statement M
-column-spec =
-    tie.close
-    (tie.spec
-    mul-if1
-    shared-slice-copy-out-if1
-    returns
-    going-left-requires
-    returns-2
-    add-if3
-    going-right-requires
-    returns-3
-    returns-4)
+column-spec = tie.close (tie.spec rule-at-requires entry-of-requires returns)

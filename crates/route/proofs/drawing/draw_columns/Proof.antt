@@ -1,10 +1,12 @@
+use mathlib.Core.Path.{_≡_}
 use native.Mathlib.Omega.{arith}
 use borrow.Author.Needs.{needs, sfits-of}
+use lib.ListN.{length, length-set}
 use mir.Syntax.{w32}
 use mir.ValLaws.{toZ-ofZ}
 use Rattle.whole.proofs.Machine.{back}
 use Rattle.wiring.specs.Wiring.{pad}
-use Rattle.route.proofs.Wires.{left-drawn, right-drawn}
+use Rattle.route.proofs.Wires.{wire-begun, wire-room, wire-same-length, wire-drawn}
 use Rattle.route.proofs.drawing.draw_columns.Statement.{statement}
 use Rattle.route.proofs.drawing.draw_columns.Tie as tie
 
@@ -13,56 +15,64 @@ top-pad-requires c κs =
     let s = c .args in
     (c .pre .0 .rows .top, rw (toZ-ofZ w32 (s .d) (c .fits .d)) (c .pre .0 .offset), omega (arith, c .pre .0 .rows .equal))
 
-mul-if1 : tie.Need-mul-if1
-mul-if1 c = search needs
+mul-out : tie.Need-mul-out
+mul-out c = search needs
 
-shared-slice-copy-out-if1 : tie.Need-shared-slice-copy-out-if1
-shared-slice-copy-out-if1 c = search needs
+shared-slice-copy-out-out : tie.Need-shared-slice-copy-out-out
+shared-slice-copy-out-out c = search needs
 
-draw-left-requires : tie.Need-draw-left-requires
-draw-left-requires c κs = search needs
+slice-set-from-out : tie.Need-slice-set-from-out
+slice-set-from-out c = search needs
 
-draw-right-requires : tie.Need-draw-right-requires
-draw-right-requires c κs = search needs
+sub-draw-above : tie.Need-sub-draw-above
+sub-draw-above c = simp length-set (omega arith)
 
-same-length : tie.Need-same-length
-same-length c = search needs
+part-draw-above-start : tie.Need-part-draw-above-start
+part-draw-above-start c = simp length-set (omega arith)
+
+part-draw-above-end : tie.Need-part-draw-above-end
+part-draw-above-end c = search needs
+
+draw-above-requires : tie.Need-draw-above-requires
+draw-above-requires c κs =
+    let at-out = c .before in
+    let at-start = at-out .before .before in
+    let s = at-start .args in
+    let rows = at-start .pre .0 .rows in
+    let first = back (pad (s .a .now) (s .i)) (at-out .out .given) in
+    let begun = wire-begun (s .a .now) (s .b .now) (s .s) (s .d) (s .i) (s .out .now) (at-start .pre .2) _ first in
+    (rows .bottom, rows .few, at-start .pre .1, wire-room (s .a .now) (s .b .now) (s .s) (s .d) (s .i) (s .out .now) (at-start .pre .2) _ begun)
 
 returns : tie.Need-returns
 returns c =
-    let f = c .before .before .before in
-    let k = f .before .before in
-    let s = k .before .args in
-    let t = k .top-pad in
+    let at-out = c .before .before .before in
+    let at-top-pad = at-out .before in
+    let at-start = at-top-pad .before in
+    let s = at-start .args in
+    let t = at-top-pad .top-pad in
     let x = toZ-ofZ w32 (t .result) (sfits-of (t .ok)) in
-    let e = back (pad (s .a .now) (s .i)) (f .before .if12 .given) in
-    left-drawn (s .a .now) (s .b .now) (s .s) (s .d) (s .i) (t .result) (s .out .now) _
-    (rw (toZ-ofZ w32 (s .d) (k .before .fits .d)) at (t .ensures)) (rw (x, e) at (f .if1 .taken)) (rw x at (c .before .draw-left .ensures))
+    let top = rw (toZ-ofZ w32 (s .d) (at-start .fits .d)) at (t .ensures) in
+    let first = back (pad (s .a .now) (s .i)) (at-out .out .given) in
+    let begun = wire-begun (s .a .now) (s .b .now) (s .s) (s .d) (s .i) (s .out .now) (at-start .pre .2) _ first in
+    wire-drawn (s .a .now) (s .b .now) (s .s) (s .d) (s .i) (s .out .now) (at-start .pre .2) (t .result) _ _ top begun (rw x at (c .before .draw-above .ensures))
 
-same-length-2 : tie.Need-same-length-2
-same-length-2 c = search needs
-
-returns-2 : tie.Need-returns-2
-returns-2 c =
-    let f = c .before .before .before in
-    let k = f .before .before in
-    let s = k .before .args in
-    let t = k .top-pad in
-    let x = toZ-ofZ w32 (t .result) (sfits-of (t .ok)) in
-    let e = back (pad (s .a .now) (s .i)) (f .before .if12 .given) in
-    right-drawn (s .a .now) (s .b .now) (s .s) (s .d) (s .i) (t .result) (s .out .now) _
-    (rw (toZ-ofZ w32 (s .d) (k .before .fits .d)) at (t .ensures)) (k .before .pre .1) (rw (x, e) at (f .if1 .left)) (rw x at (c .before .draw-right .ensures))
+same-length : tie.Need-same-length
+same-length c =
+    let at-start = c .before .before .before .before .before in
+    let s = at-start .args in
+    wire-same-length (s .a .now) (s .b .now) (s .s) (s .d) (s .i) (s .out .now) (at-start .pre .2) _ (returns c)
 
 pub draw-columns-spec : {M : Type 1} → statement M
 draw-columns-spec =
     tie.close
     (tie.spec
     top-pad-requires
-    mul-if1
-    shared-slice-copy-out-if1
-    draw-left-requires
-    draw-right-requires
+    mul-out
+    shared-slice-copy-out-out
+    slice-set-from-out
+    sub-draw-above
+    part-draw-above-start
+    part-draw-above-end
+    draw-above-requires
     same-length
-    returns
-    same-length-2
-    returns-2)
+    returns)

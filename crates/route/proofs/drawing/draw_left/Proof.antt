@@ -12,17 +12,11 @@ use Rattle.route.proofs.drawing.draw_left.Tie as tie
 add-fewer : tie.Need-add-fewer
 add-fewer c = search needs
 
-add-fewer-2 : tie.Need-add-fewer-2
-add-fewer-2 c = search needs
-
 fewer-requires : tie.Need-fewer-requires
 fewer-requires c κs = search needs
 
 held-left-requires : tie.Need-held-left-requires
 held-left-requires c κs = search needs
-
-add-straight : tie.Need-add-straight
-add-straight c = search needs
 
 sub-straight : tie.Need-sub-straight
 sub-straight c = search needs
@@ -51,7 +45,7 @@ returns c =
     let k = h .before .before in
     let s = k .before .args in
     let e = toZ-ofZ w32 (s .c) (k .before .fits .c) in
-    straight-on (leftward (pad (s .a .now)) (s .c) (s .i)) (s .c) (k .fewer .result) (s .s) (s .out .now) _ _ (omega (arith, k .fewer .ensures)) (omega arith)
+    straight-on (leftward (pad (s .a .now)) (s .c) (s .i)) (s .c) (k .fewer .result) (s .k) (s .out .now) _ _ (omega (arith, k .fewer .ensures)) (omega arith)
     (λ t m l. leftward-free 0 (pad (s .a .now)) (s .c) (s .i) t (omega (arith, k .fewer .ensures)))
     (rw e at (h .held-left .ensures))
     (simp e at (c .before .straight .ensures))
@@ -61,10 +55,8 @@ draw-left-spec =
     tie.close
     (tie.spec
     add-fewer
-    add-fewer-2
     fewer-requires
     held-left-requires
-    add-straight
     sub-straight
     mul-straight
     sub-straight-2

@@ -10,9 +10,6 @@ use Rattle.route.proofs.Wires.{rightward-free}
 use Rattle.route.proofs.drawing.draw_right.Statement.{statement}
 use Rattle.route.proofs.drawing.draw_right.Tie as tie
 
-add-fewer : tie.Need-add-fewer
-add-fewer c = search needs
-
 sub-fewer : tie.Need-sub-fewer
 sub-fewer c = search needs
 
@@ -21,9 +18,6 @@ fewer-requires c κs = search needs
 
 held-right-requires : tie.Need-held-right-requires
 held-right-requires c κs = search needs
-
-add-straight : tie.Need-add-straight
-add-straight c = search needs
 
 sub-straight : tie.Need-sub-straight
 sub-straight c = search needs
@@ -52,7 +46,7 @@ returns c =
     let k = h .before .before in
     let s = k .before .args in
     let e = toZ-ofZ w32 (s .c) (k .before .fits .c) in
-    straight-on (rightward (length (s .a .now)) (pad (s .a .now)) (s .c) (s .i)) (s .c) (k .fewer .result) (s .s) (s .out .now) _ _ (omega (arith, k .fewer .ensures)) (omega arith)
+    straight-on (rightward (length (s .a .now)) (pad (s .a .now)) (s .c) (s .i)) (s .c) (k .fewer .result) (s .k) (s .out .now) _ _ (omega (arith, k .fewer .ensures)) (omega arith)
     (λ t m l. rightward-free (length (s .a .now)) (pad (s .a .now)) (s .c) (s .i) t (omega (arith, k .fewer .ensures)))
     (rw e at (h .held-right .ensures))
     (simp e at (c .before .straight .ensures))
@@ -61,11 +55,9 @@ pub draw-right-spec : {M : Type 1} → statement M
 draw-right-spec =
     tie.close
     (tie.spec
-    add-fewer
     sub-fewer
     fewer-requires
     held-right-requires
-    add-straight
     sub-straight
     mul-straight
     sub-straight-2

@@ -9,7 +9,7 @@ add-result : tie.Need-add-result
 add-result c = search needs
 
 mul-result : tie.Need-mul-result
-mul-result c = let h : c .args .n * (c .args .s + 1) ≤ 2048 * 2049 = mul-le-mul {m₂ = 2049} (c .pre .0) (omega arith) in omega arith
+mul-result c = let h : c .args .n * (c .args .s + 1) ≤ 2048 * 2050 = mul-le-mul {m₂ = 2050} (c .pre .0) (omega arith) in omega arith
 
 returns : tie.Need-returns
 returns c = search needs

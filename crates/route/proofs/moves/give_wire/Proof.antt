@@ -13,14 +13,14 @@ use mir.Val.{toZ}
 use mir.ValLaws.{toZ-ofZ}
 use Rattle.whole.proofs.Machine.{back}
 use Rattle.wiring.specs.Wiring.{pad, topPad}
-use Rattle.wiring.specs.Drawing.{entry, drawn}
+use Rattle.wiring.specs.Drawing.{columnAt, drawn}
 use Rattle.route.specs.Moves.{wireText}
 use Rattle.route.proofs.Texts.{wire-step, wire-still, wire-full}
 use Rattle.route.proofs.moves.give_wire.Statement.{statement}
 use Rattle.route.proofs.moves.give_wire.Tie as tie
 
 abbrev Inv-loop : tie.InvT-loop
-Inv-loop a b line s d i track out₀ at c t₀ p₀ x₀ out t p x = (length out ≡ length out₀) × (t ≤ s) × (toZ w32 x ≡ entry (length a) (pad a) (topPad b (toZ w32 d) i) i t) × (take at out₀ ++ wireText line (drawn (length a) (pad a) (topPad b (toZ w32 d))) i track (s - track) ≡ take p out ++ wireText line (drawn (length a) (pad a) (topPad b (toZ w32 d))) i t (s - t)) × (at ≤ length out₀ → p ≤ length out₀)
+Inv-loop a b line s d i track out₀ at c t₀ p₀ x₀ out t p x = (length out ≡ length out₀) × (t ≤ s) × (toZ w32 x ≡ columnAt (length a) (pad a) (topPad b (toZ w32 d) i) i t) × (take at out₀ ++ wireText line (drawn (length a) (pad a) (topPad b (toZ w32 d))) i track (s - track) ≡ take p out ++ wireText line (drawn (length a) (pad a) (topPad b (toZ w32 d))) i t (s - t)) × (at ≤ length out₀ → p ≤ length out₀)
 
 abbrev μ-loop : tie.MeasureT-loop
 μ-loop a b line s d i track out₀ at c t₀ p₀ x₀ out t p x = s - t
@@ -39,7 +39,7 @@ column-requires c κs = let q = c .before .before .before .pre in (q .0 .rows .b
 loop-holds : tie.Need-loop-holds Inv-loop μ-loop
 loop-holds c =
     let ec = back (c .before .top-pad .result) (c .before .top-pad .ok) ∙ c .before .top-pad .ensures in
-    (refl, search needs, back (c .column .result) (c .column .ok) ∙ c .column .ensures ∙ ap (λ (z : ℤ). entry (length (c .before .before .before .before .args .a .now)) (pad (c .before .before .before .before .args .a .now)) z (c .before .before .before .before .args .i) (c .before .before .before .before .args .track)) ec, refl, λ h. h)
+    (refl, search needs, back (c .column .result) (c .column .ok) ∙ c .column .ensures ∙ ap (λ (z : ℤ). columnAt (length (c .before .before .before .before .args .a .now)) (pad (c .before .before .before .before .args .a .now)) z (c .before .before .before .before .args .i) (c .before .before .before .before .args .track)) ec, refl, λ h. h)
 
 differs-requires : tie.Need-differs-requires Inv-loop μ-loop
 differs-requires c κs = search needs
@@ -80,7 +80,7 @@ loop-again c =
     let E : ℕ → ℕ → ℤ = drawn (length (g .a .now)) (pad (g .a .now)) (topPad (g .b .now) (toZ w32 (ofZ w32 (g .d)))) in
     let W : List ℕ = take (g .at) (g .out .now) ++ wireText (g .line) E (g .i) (g .track) (g .s - g .track) in
     let ec = back (at-top-pad .top-pad .result) (at-top-pad .top-pad .ok) ∙ at-top-pad .top-pad .ensures in
-    let ey = back (at-column2 .column2 .result) (at-column2 .column2 .ok) ∙ at-column2 .column2 .ensures ∙ ap (λ (z : ℤ). entry (length (g .a .now)) (pad (g .a .now)) z (g .i) (at-loop .loop .t + 1)) ec in (
+    let ey = back (at-column2 .column2 .result) (at-column2 .column2 .ok) ∙ at-column2 .column2 .ensures ∙ ap (λ (z : ℤ). columnAt (length (g .a .now)) (pad (g .a .now)) z (g .i) (at-loop .loop .t + 1)) ec in (
       at-give-track .give-track .kept .1 .0 ∙ at-loop .loop .inv .0,
       omega (arith, at-loop-test .loop-test .taken),
       ey,
