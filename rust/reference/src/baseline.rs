@@ -9,6 +9,7 @@ use std::io::{self, BufRead, BufReader, BufWriter, Read, Write};
 
 use crate::form::{Record, Wish};
 use crate::numbers::*;
+use crate::rule::{rule_at, tracks_for};
 
 /// Levels of 2,048 pairs: 2,048, 1,024 .. 1.
 const MOST_LEVELS: usize = 12;
@@ -79,16 +80,17 @@ fn check_offset(d: i32) -> Result<(), Numbers> {
 }
 
 fn check_fit(a: &[i32], b: &[i32], s: usize, d: i32) -> Result<(), Numbers> {
-    if s >= a.len() || ends(a, b, s, 1).holds(d) {
+    let r = rule_at(s);
+    if r >= a.len() || ends(a, b, r, 1).holds(d) {
         return Ok(());
     }
-    Err(misfit(a, b, s, d))
+    Err(misfit(a, b, r, d))
 }
 
 #[cold]
-fn misfit(a: &[i32], b: &[i32], s: usize, d: i32) -> Numbers {
-    for i in 0..a.len() - s {
-        if let Some(side) = broken(a, b, i, s, d) {
+fn misfit(a: &[i32], b: &[i32], r: usize, d: i32) -> Numbers {
+    for i in 0..a.len() - r {
+        if let Some(side) = broken(a, b, i, r, d) {
             return Numbers::no_fit(i, side);
         }
     }
@@ -96,36 +98,36 @@ fn misfit(a: &[i32], b: &[i32], s: usize, d: i32) -> Numbers {
 }
 
 // ---------------------------------------------------------------------------------------------
-// The rule
+// The rule. As in the reference r is the number it is read at, s a separation.
 // ---------------------------------------------------------------------------------------------
 
-/// How pair i breaks the rule. In columns: x_(i+s) - y_i = a_(i+s) - b_i - s, and
-/// x_i - y_(i+s) = a_i - b_(i+s) + s.
+/// How pair i breaks the rule. In columns: x_(i+r) - y_i = a_(i+r) - b_i - r, and
+/// x_i - y_(i+r) = a_i - b_(i+r) + r.
 #[inline]
-fn broken(a: &[i32], b: &[i32], i: usize, s: usize, d: i32) -> Option<u8> {
-    if d > a[i + s] - b[i] - s as i32 {
+fn broken(a: &[i32], b: &[i32], i: usize, r: usize, d: i32) -> Option<u8> {
+    if d > a[i + r] - b[i] - r as i32 {
         Some(RIGHT)
-    } else if d < a[i] - b[i + s] + s as i32 {
+    } else if d < a[i] - b[i + r] + r as i32 {
         Some(LEFT)
     } else {
         None
     }
 }
 
-/// The two ends of the range at s < n. The rows may be thinned out: `step` is how many pads of the
+/// The two ends of the range at r < n. The rows may be thinned out: `step` is how many pads of the
 /// jumper lie between neighbours, so that x_i is entry i less i * step.
 #[inline]
-fn ends(a: &[i32], b: &[i32], s: usize, step: usize) -> Range {
-    let m = a.len() - s;
-    let (a_low, a_high) = (&a[..m], &a[s..][..m]);
-    let (b_low, b_high) = (&b[..m], &b[s..][..m]);
+fn ends(a: &[i32], b: &[i32], r: usize, step: usize) -> Range {
+    let m = a.len() - r;
+    let (a_low, a_high) = (&a[..m], &a[r..][..m]);
+    let (b_low, b_high) = (&b[..m], &b[r..][..m]);
     let mut lowest = i32::MIN;
     let mut highest = i32::MAX;
     for i in 0..m {
         lowest = lowest.max(a_low[i] - b_high[i]);
         highest = highest.min(a_high[i] - b_low[i]);
     }
-    let shift = (s * step) as i32;
+    let shift = (r * step) as i32;
     Range {
         lowest: lowest + shift,
         highest: highest - shift,
@@ -150,8 +152,8 @@ fn try_fit(a: &[i32], b: &[i32], s: usize, d: i32) -> Result<Numbers, Numbers> {
     })
 }
 
-/// The least separation at d, in one pass. What fits at s fits at s + 1, so s only ever rises; the
-/// pair that raises it last is the first to break the rule at one track fewer.
+/// The least separation at d, in one pass. What meets the rule at r meets it at r + 1, so r only ever
+/// rises; the pair that raises it last is the first to break the rule at one track fewer.
 pub fn least(a: &[i32], b: &[i32], d: i32) -> Numbers {
     flat(try_least(a, b, d))
 }
@@ -160,19 +162,19 @@ fn try_least(a: &[i32], b: &[i32], d: i32) -> Result<Numbers, Numbers> {
     check_rows(a, b)?;
     check_offset(d)?;
     let n = a.len();
-    let (mut s, mut pair, mut side) = (0, 0, 0);
+    let (mut r, mut pair, mut side) = (0, 0, 0);
     let mut i = 0;
-    while i + s < n {
-        match broken(a, b, i, s, d) {
+    while i + r < n {
+        match broken(a, b, i, r, d) {
             Some(how) => {
                 (pair, side) = (i, how);
-                s += 1;
+                r += 1;
             }
             None => i += 1,
         }
     }
     Ok(Numbers {
-        separation: s,
+        separation: tracks_for(r),
         lowest: d,
         highest: d,
         pair,
@@ -189,13 +191,14 @@ pub fn range(a: &[i32], b: &[i32], s: usize) -> Numbers {
 fn try_range(a: &[i32], b: &[i32], s: usize) -> Result<Numbers, Numbers> {
     check_rows(a, b)?;
     check_separation(s)?;
-    let found = if s < a.len() {
-        ends(a, b, s, 1)
+    let r = rule_at(s);
+    let found = if r < a.len() {
+        ends(a, b, r, 1)
     } else {
         Range::ALL
     };
     if found.is_empty() {
-        return Err(no_offset(a, b, s, found));
+        return Err(no_offset(a, b, r, found));
     }
     Ok(Numbers {
         separation: s,
@@ -206,13 +209,13 @@ fn try_range(a: &[i32], b: &[i32], s: usize) -> Result<Numbers, Numbers> {
 }
 
 #[cold]
-fn no_offset(a: &[i32], b: &[i32], s: usize, found: Range) -> Numbers {
-    let shift = s as i32;
+fn no_offset(a: &[i32], b: &[i32], r: usize, found: Range) -> Numbers {
+    let shift = r as i32;
     let low = a
         .iter()
-        .zip(&b[s..])
+        .zip(&b[r..])
         .position(|(a, b)| a - b + shift == found.lowest);
-    let high = a[s..]
+    let high = a[r..]
         .iter()
         .zip(b)
         .position(|(a, b)| a - b - shift == found.highest);
@@ -220,7 +223,7 @@ fn no_offset(a: &[i32], b: &[i32], s: usize, found: Range) -> Numbers {
 }
 
 // ---------------------------------------------------------------------------------------------
-// Best by halving
+// Best by halving: numbers at which the rule is read, in the ladder too; a separation at the end.
 // ---------------------------------------------------------------------------------------------
 
 /// Best separation, its range, the count, and the ladder.
@@ -253,10 +256,10 @@ fn try_best(
     let found = halved(buffer);
     let offsets = match found.offsets {
         Some(offsets) => offsets,
-        None => ends(a, b, found.separation, 1),
+        None => ends(a, b, found.best, 1),
     };
     Ok(Numbers {
-        separation: found.separation,
+        separation: tracks_for(found.best),
         lowest: offsets.lowest,
         highest: offsets.highest,
         count: found.count,
@@ -265,7 +268,8 @@ fn try_best(
 }
 
 struct Halved {
-    separation: usize,
+    /// The least number at which some offset meets the rule.
+    best: usize,
     /// None for an answer that wasn't tried.
     offsets: Option<Range>,
     count: usize,
@@ -279,17 +283,17 @@ fn halve(a: &[i32], b: &[i32], m: usize, step: usize, ladder: &mut [usize]) -> H
     }
     let below = halve(a, b, m.div_ceil(2), 2 * step, &mut ladder[2..]);
     // Where the step is known the compiler can make vector code.
-    decide(m, below, ladder, |s| match step {
-        1 => ends(a, b, s, 1),
-        2 => ends_apart(a, b, m, s, 2),
-        _ => ends_apart(a, b, m, s, step),
+    decide(m, below, ladder, |r| match step {
+        1 => ends(a, b, r, 1),
+        2 => ends_apart(a, b, m, r, 2),
+        _ => ends_apart(a, b, m, r, step),
     })
 }
 
 fn one_pair(ladder: &mut [usize]) -> Halved {
     ladder[..2].copy_from_slice(&[1, 0]);
     Halved {
-        separation: 0,
+        best: 0,
         offsets: None,
         count: 0,
     }
@@ -302,34 +306,34 @@ fn decide(
     ladder: &mut [usize],
     trial: impl Fn(usize) -> Range,
 ) -> Halved {
-    let h = below.separation;
+    let h = below.best;
     let mut found = Halved {
-        separation: 2 * h + 1,
+        best: 2 * h + 1,
         offsets: None,
         count: below.count,
     };
-    for s in (2 * h).saturating_sub(1)..=2 * h {
-        found.count += 2 * (m - s);
-        let offsets = trial(s);
+    for r in (2 * h).saturating_sub(1)..=2 * h {
+        found.count += 2 * (m - r);
+        let offsets = trial(r);
         if !offsets.is_empty() {
-            found.separation = s;
+            found.best = r;
             found.offsets = Some(offsets);
             break;
         }
     }
-    ladder[..2].copy_from_slice(&[m, found.separation]);
+    ladder[..2].copy_from_slice(&[m, found.best]);
     found
 }
 
-/// The two ends of the range at s among m entries that stand `step` pads apart. Of what was tried
+/// The two ends of the range at r among m entries that stand `step` pads apart. Of what was tried
 /// in safe Rust (indices, `step_by`, `chunks`) indices are the fastest.
 #[inline]
-fn ends_apart(a: &[i32], b: &[i32], m: usize, s: usize, step: usize) -> Range {
-    let gap = step * s;
+fn ends_apart(a: &[i32], b: &[i32], m: usize, r: usize, step: usize) -> Range {
+    let gap = step * r;
     let mut lowest = i32::MIN;
     let mut highest = i32::MAX;
     let mut i = 0;
-    for _ in 0..m - s {
+    for _ in 0..m - r {
         lowest = lowest.max(a[i] - b[i + gap]);
         highest = highest.min(a[i + gap] - b[i]);
         i += step;
@@ -352,7 +356,7 @@ fn halve_copies(a: &[i32], b: &[i32], step: usize, ladder: &mut [usize]) -> Halv
     copy_even(a, &mut even_a[..half]);
     copy_even(b, &mut even_b[..half]);
     let below = halve_copies(&even_a[..half], &even_b[..half], 2 * step, &mut ladder[2..]);
-    decide(m, below, ladder, |s| ends(a, b, s, step))
+    decide(m, below, ladder, |r| ends(a, b, r, step))
 }
 
 fn copy_even(from: &[i32], to: &mut [i32]) {
@@ -425,10 +429,13 @@ fn try_draw_all(
     Ok(Numbers::default())
 }
 
-/// The columns of wire i to column c: bound by the pads on its way, then c.
+/// The columns of wire i to column c: straight over track 0, bound by the pads on its way, then c.
 fn draw_columns(a: &[i32], i: usize, c: i32, wire: &mut [i32]) {
     wire[0] = a[i];
-    let wire = &mut wire[1..];
+    let Some((straight, wire)) = wire[1..].split_first_mut() else {
+        return;
+    };
+    *straight = a[i];
     if c >= a[i] {
         let pads = &a[i + 1..];
         let bound = wire.len().min(pads.len());
@@ -470,7 +477,8 @@ fn try_check(a: &[i32], b: &[i32], s: usize, d: i32, table: &[i32]) -> Result<Nu
     let mut limit = width;
     for i in 0..n {
         let wire = &table[i * width..(i + 1) * width];
-        if wire[0] != a[i] {
+        // It starts at its pad, and a step aside on track 0 is a fault there.
+        if wire[0] != a[i] || (s > 0 && wire[1] != a[i]) {
             (fault, limit) = (Some(i), 0);
             break;
         }
@@ -739,20 +747,19 @@ impl<W: Write> Machine<W> {
         for wire in 0..a.len() {
             let (mut at, c) = (a[wire], b[wire] + numbers.lowest);
             let rightwards = c >= at;
-            // A wire never turns round, so once at c it goes straight up.
-            for track in 0..numbers.separation {
+            // Straight over track 0. A wire never turns round, so once at c it goes straight up.
+            for track in 1..numbers.separation {
                 if at == c {
                     break;
                 }
-                let up = track + 1;
                 let to = if rightwards {
-                    match a.get(wire + up) {
-                        Some(pad) => c.min(pad - up as i32),
+                    match a.get(wire + track) {
+                        Some(pad) => c.min(pad - track as i32),
                         None => c,
                     }
                 } else {
-                    match wire.checked_sub(up) {
-                        Some(left) => c.max(a[left] + up as i32),
+                    match wire.checked_sub(track) {
+                        Some(left) => c.max(a[left] + track as i32),
                         None => c,
                     }
                 };

@@ -1,22 +1,26 @@
 //! Best separation: by trial from 0 upwards, and by the halving rule with its ladder and count.
+//!
+//! The halving works with numbers at which the rule is read (r here, see [`crate::rule::rule_at`]) at
+//! every level, the topmost too, and its ladder and its count are in these numbers. Only the answer
+//! of the best call is a separation.
 
 use crate::numbers::*;
 use crate::rows::check_rows;
-use crate::rule::{offsets, reduced};
+use crate::rule::{offsets, reduced, rule_at, tracks_for};
 
 /// The best separation and its offsets by trying s = 0, 1, 2 .. until some offset fits. Needs
 /// accepted rows.
 pub fn best_by_trial(a: &[i32], b: &[i32]) -> (usize, Range) {
     let (x, y) = (reduced(a), reduced(b));
     let mut s = 0;
-    while offsets(&x, &y, s).is_empty() {
+    while offsets(&x, &y, rule_at(s)).is_empty() {
         s += 1;
     }
-    (s, offsets(&x, &y, s))
+    (s, offsets(&x, &y, rule_at(s)))
 }
 
-/// What the halving rule gives: for each level from n down to 1 its size and its best separation,
-/// and the number of differences read by all trials at all levels.
+/// What the halving rule gives: for each level from n down to 1 its size and its best number (the
+/// least r with a nonempty range), and how many differences all trials at all levels read.
 #[derive(Clone, Debug, PartialEq, Eq)]
 pub struct Halved {
     pub ladder: Vec<(usize, usize)>,
@@ -24,7 +28,7 @@ pub struct Halved {
 }
 
 impl Halved {
-    /// The best separation of the topmost level.
+    /// The best number of the topmost level.
     pub fn best(&self) -> usize {
         self.ladder[0].1
     }
@@ -65,15 +69,15 @@ fn even_half(row: &[i32]) -> Vec<i32> {
         .collect()
 }
 
-/// One trial at s: whether the range is nonempty. Reads 2(m - s) differences.
-fn trial(x: &[i32], y: &[i32], s: usize, count: &mut usize) -> bool {
+/// One trial at r: whether the range is nonempty. Reads 2(m - r) differences.
+fn trial(x: &[i32], y: &[i32], r: usize, count: &mut usize) -> bool {
     let m = x.len();
     let mut low = Vec::new();
     let mut high = Vec::new();
-    for i in 0..m - s {
-        low.push(x[i] - y[i + s]);
+    for i in 0..m - r {
+        low.push(x[i] - y[i + r]);
         *count += 1;
-        high.push(x[i + s] - y[i]);
+        high.push(x[i + r] - y[i]);
         *count += 1;
     }
     low.iter().max() <= high.iter().min()
@@ -101,7 +105,7 @@ pub fn best(a: &[i32], b: &[i32]) -> Numbers {
 }
 
 /// Best separation, its offsets and the count; the ladder goes to the lent buffer, size then best
-/// separation for each level from n down to 1. Checks 1 to 5 and 9. Places beyond are untouched.
+/// number for each level from n down to 1. Checks 1 to 5 and 9. Places beyond are untouched.
 pub fn best_with_ladder(a: &[i32], b: &[i32], buffer: &mut [usize]) -> Numbers {
     flat(try_best(a, b, Some(buffer)))
 }
@@ -120,10 +124,9 @@ fn try_best(a: &[i32], b: &[i32], buffer: Option<&mut [usize]>) -> Result<Number
         }
         buffer[..flat.len()].copy_from_slice(&flat);
     }
-    let separation = halved.best();
-    let found = offsets(&reduced(a), &reduced(b), separation);
+    let found = offsets(&reduced(a), &reduced(b), halved.best());
     Ok(Numbers {
-        separation,
+        separation: tracks_for(halved.best()),
         lowest: found.lowest,
         highest: found.highest,
         count: halved.count,

@@ -9,7 +9,7 @@
 //! |---|---|
 //! | [`numbers`] | the limits, the refusal numbers, [`Numbers`], [`Range`] |
 //! | [`rows`] | refusals 1 to 5 with their places |
-//! | [`rule`] | fit and witness, least separation, offset range, the stretch at fault |
+//! | [`rule`] | numbers of the rule; fit and witness, least separation, offset range, stretch at fault |
 //! | [`halving`] | best separation: by trial, and by the halving rule with ladder and count |
 //! | [`wires`] | drawing, the checker, legality over grid points |
 //! | [`search`] | whether a legal wiring exists, found without the rule |

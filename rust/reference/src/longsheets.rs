@@ -14,8 +14,8 @@ pub const READ: usize = 65_536;
 pub const WRITTEN: usize = 131_072;
 
 /// The frames of an order for a separation and an offset, 16 columns a frame. Its rows have a pad on
-/// every third column, so an offset of twice the separation just fits, and then each wire moves on
-/// every track but where there are no pads left to hold it.
+/// every third column, so an offset of twice the tracks between the rows' own just fits, and then
+/// each wire moves on every one of these but where there are no pads left to hold it.
 fn order(line: u8, n: usize, separation: u16, offset: i32) -> Vec<Vec<u8>> {
     let row: Vec<i32> = (0..n as i32).map(|i| 3 * i).collect();
     let mut frames = vec![frame_10(line, n as u16, separation, offset)];
@@ -76,7 +76,7 @@ impl Sheet {
 
     /// An order whose route is longer than what is written at once.
     fn put_long_route(&mut self) {
-        let dense = self.next(200, 24, 48);
+        let dense = self.next(200, 25, 48);
         self.put(&dense);
     }
 }
@@ -89,11 +89,11 @@ const PAIRS: usize = 40;
 fn cut_inside_frames() -> Vec<u8> {
     let mut sheet = Sheet::new();
     sheet.put_long_route();
-    let header = sheet.next(PAIRS, 3, 6);
+    let header = sheet.next(PAIRS, 4, 6);
     sheet.put_cut_at(&header, 0, 12);
     let digits = sheet.next(PAIRS, LEAST, 5);
     sheet.put_cut_at(&digits, 2, 61);
-    let feed = sheet.next(PAIRS, 2, -4);
+    let feed = sheet.next(PAIRS, 3, -4);
     sheet.put_cut_at(&feed, 5, feed[5].len() - 1);
     sheet.text
 }
@@ -102,15 +102,15 @@ fn cut_inside_frames() -> Vec<u8> {
 fn cut_between_frames() -> Vec<u8> {
     let mut sheet = Sheet::new();
     sheet.put_long_route();
-    let after_header = sheet.next(PAIRS, 3, 6);
+    let after_header = sheet.next(PAIRS, 4, 6);
     sheet.put_cut_at(&after_header, 1, 0);
     let in_a_row = sheet.next(PAIRS, LEAST, -5);
     sheet.put_cut_at(&in_a_row, 2, 0);
-    let between_rows = sheet.next(PAIRS, 4, 7);
+    let between_rows = sheet.next(PAIRS, 5, 7);
     sheet.put_cut_at(&between_rows, 4, 0);
-    let between_orders = sheet.next(PAIRS, 1, 2);
+    let between_orders = sheet.next(PAIRS, 2, 2);
     sheet.put_cut_at(&between_orders, between_orders.len(), 0);
-    let last = sheet.next(PAIRS, 1, -2);
+    let last = sheet.next(PAIRS, 2, -2);
     sheet.put(&last);
     sheet.text
 }
@@ -121,16 +121,16 @@ fn cut_between_frames() -> Vec<u8> {
 fn cut_in_bad_and_passed_over_lines() -> Vec<u8> {
     let mut sheet = Sheet::new();
     sheet.put_long_route();
-    let mut bad = sheet.next(PAIRS, 3, 6);
+    let mut bad = sheet.next(PAIRS, 4, 6);
     bad[3].splice(..0, *b"00");
     sheet.put_cut_at(&bad, 3, 2);
-    let mut passed = sheet.next(PAIRS, 3, 6);
+    let mut passed = sheet.next(PAIRS, 4, 6);
     passed[1] = b"\n".to_vec();
     passed[3] = [b"00".to_vec(), frame_10(60, 1, 0, 0)].concat();
     sheet.put_cut_at(&passed, 3, 2);
     let after = sheet.next(PAIRS, LEAST, 1);
     sheet.put(&after);
-    let mut unfed = sheet.next(PAIRS, 3, 6);
+    let mut unfed = sheet.next(PAIRS, 4, 6);
     unfed[6].pop();
     sheet.put_cut_at(&unfed, 6, 40);
     sheet.text
@@ -141,7 +141,7 @@ fn ends_with_what_is_read() -> Vec<u8> {
     let mut sheet = Sheet::new();
     sheet.put_long_route();
     sheet.fill_to(READ);
-    let open = sheet.next(PAIRS, 3, 6);
+    let open = sheet.next(PAIRS, 4, 6);
     sheet.put_cut_at(&open[..5], 5, 0);
     assert_eq!(sheet.text.len(), 2 * READ);
     sheet.text
@@ -153,9 +153,9 @@ fn ends_with_a_header() -> Vec<u8> {
     let mut sheet = Sheet::new();
     sheet.put_long_route();
     sheet.fill_to(READ);
-    let cut_off = sheet.next(PAIRS, 3, 6);
+    let cut_off = sheet.next(PAIRS, 4, 6);
     sheet.put(&cut_off[..5]);
-    let open = sheet.next(PAIRS, 3, 6);
+    let open = sheet.next(PAIRS, 4, 6);
     sheet.put(&open[..1]);
     sheet.text
 }
@@ -165,7 +165,7 @@ fn ends_with_a_header() -> Vec<u8> {
 fn route_after_the_end() -> Vec<u8> {
     let mut sheet = Sheet::new();
     sheet.fill_to(READ);
-    let dense = sheet.next(300, 32, 64);
+    let dense = sheet.next(300, 33, 64);
     sheet.put(&dense);
     sheet.text
 }
@@ -173,11 +173,11 @@ fn route_after_the_end() -> Vec<u8> {
 /// The first order's answer is just as long as what is written at once.
 fn answer_as_long_as_the_buffer() -> Vec<u8> {
     let mut sheet = Sheet::new();
-    let exact = sheet.next(707, 6, 12);
+    let exact = sheet.next(707, 7, 12);
     sheet.put(&exact);
     assert_eq!(crate::answer_sheet(&sheet.text).len(), WRITTEN);
     sheet.fill_to(READ);
-    let last = sheet.next(PAIRS, 3, 6);
+    let last = sheet.next(PAIRS, 4, 6);
     sheet.put(&last);
     sheet.text
 }

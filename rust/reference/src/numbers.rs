@@ -6,8 +6,8 @@ pub const MOST_PAIRS: usize = 2_048;
 pub const FIRST_COLUMN: i32 = -65_535;
 /// Greatest column of a pad.
 pub const LAST_COLUMN: i32 = 65_535;
-/// Greatest separation.
-pub const MOST_TRACKS: usize = 2_048;
+/// Greatest separation: one above the most pairs, so that every offset has one at which it fits.
+pub const MOST_TRACKS: usize = 2_049;
 /// Greatest offset; the least is its negative.
 pub const LAST_OFFSET: i32 = 131_070;
 /// Most lines on a form; on a sheet line numbers therefore go from 0 to 63.
@@ -23,7 +23,7 @@ pub const LONG: u8 = 3;
 pub const COLUMN: u8 = 4;
 /// A column isn't above the one before.
 pub const ORDER: u8 = 5;
-/// Separation over 2,048.
+/// Separation over 2,049.
 pub const TRACKS: u8 = 6;
 /// Offset out of range.
 pub const OFFSET: u8 = 7;
@@ -46,9 +46,10 @@ pub const TWICE: u8 = 15;
 /// The checker's fault.
 pub const BADWIRE: u8 = 16;
 
-/// Side RIGHT of a witness: top pad i is too far right for bottom pad i+s.
+/// Side RIGHT of a witness: top pad i is too far right for bottom pad i+r. Here r is the number at
+/// which the rule of fit is read for the separation (see [`crate::rule::rule_at`]).
 pub const RIGHT: u8 = 1;
-/// Side LEFT of a witness: top pad i+s is too far left for bottom pad i.
+/// Side LEFT of a witness: top pad i+r is too far left for bottom pad i.
 pub const LEFT: u8 = 2;
 
 /// All result numbers of all calls. Whatever an answer doesn't speak of is 0.
@@ -61,7 +62,7 @@ pub struct Numbers {
     pub place: usize,
     /// NOOFFSET: the first i that gives the high end. BADWIRE: the track.
     pub second: usize,
-    /// The separation answered.
+    /// The separation answered; a least or best one is never 1.
     pub separation: usize,
     /// The lowest offset answered.
     pub lowest: i32,

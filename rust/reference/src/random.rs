@@ -146,7 +146,7 @@ pub fn nudged(random: &mut Random, row: &[i32]) -> Vec<i32> {
     moved
 }
 
-/// Rows 0, 1 .. n-1 and 1, 2 .. n: at offset 0 they need n tracks, at offset -1 none.
+/// Rows 0, 1 .. n-1 and 1, 2 .. n: at offset 0 they need n + 1 tracks, at offset -1 none.
 pub fn stairs(n: usize) -> (Vec<i32>, Vec<i32>) {
     ((0..n as i32).collect(), (1..=n as i32).collect())
 }
@@ -236,14 +236,15 @@ pub fn any_rows(random: &mut Random, most: usize) -> (Vec<i32>, Vec<i32>) {
     (a, b)
 }
 
-/// A separation: mostly up to a little over n, now and then at and beyond the limit.
+/// A separation: mostly up to a little over n, often at one of the ends of what the rows may need,
+/// now and then at and beyond the limit.
 pub fn separation(random: &mut Random, n: usize) -> usize {
     match random.below(10) {
-        0 => 0,
-        1 => random.pick(&[2_047, 2_048]),
-        2 => random.pick(&[2_049, 2_050, 65_534, 65_536, usize::MAX]),
-        3 => n,
-        _ => random.below(n + 2),
+        0 => random.pick(&[0, 1]),
+        1 => random.pick(&[MOST_TRACKS - 1, MOST_TRACKS]),
+        2 => random.pick(&[MOST_TRACKS + 1, MOST_TRACKS + 2, 65_534, 65_536, usize::MAX]),
+        3 => random.pick(&[n, n + 1]),
+        _ => random.below(n + 3),
     }
 }
 

@@ -4,23 +4,27 @@
 //!
 //! Wires may wander over any column, so the search needs a limit that loses nothing. Let L and R be
 //! the least and the greatest column of all 2n pads (top pads moved by d). Claim: if a legal wiring
-//! exists, one exists within columns L - m to R + m, where m = floor(s / 2).
+//! exists, one exists within columns L - m to R + m, where m is half the number of tracks between
+//! track 0 and track s, rounded down. (These are tracks 1 to s-1; for s = 0 and s = 1 there are none.)
 //!
-//! First cut every loop out of every wire, so that no wire meets a point twice; this only takes
-//! points away. Now look right of column R. No pad is there, hence no point of track s, and every
-//! wire that goes there comes back: it leaves by a step (R, t) to (R+1, t) and returns by a step
-//! (R+1, u) to (R, u), with t and u on tracks 0 to s-1. Call the part between an excursion and t, u
-//! its doors. Wires don't meet themselves or each other, so all doors of all excursions differ, and
-//! as there are s of them there are at most m excursions. All excursions lie in the half strip right
-//! of R, on tracks 0 to s-1, with their doors on its edge. Disjoint curves in it can't interlace:
-//! never is one door of one strictly between the doors of another whose other door is outside. So
-//! of two excursions either one's doors enclose the other's, or they lie side by side. Redraw each:
-//! straight right from one door to column R + k, along that column, and straight back to the other
-//! door, where k is 1 for an excursion that encloses no other, and otherwise one more than the
-//! greatest k among those it encloses. Side by side they keep to tracks of their own; of two nested
-//! ones the outer has its straight parts on tracks outside the inner's and its upright part further
-//! right. They stay disjoint, nothing at or left of R has changed, and k never passes the number of
-//! excursions, which is at most m. The same on the left of L. This proves the claim.
+//! First cut every loop out of every wire, so that no wire meets a point twice. This only takes
+//! points away, and never a wire's first or last. Now look right of column R. No pad is there. Points
+//! of track 0 are first points and points of track s last points of wires, all of them pads: so no
+//! wire has a point of these two tracks there either. Every wire that goes there comes back: it
+//! leaves by a step (R, t) to (R+1, t) and returns by a step (R+1, u) to (R, u), with t and u on
+//! tracks 1 to s-1. Call the part between an excursion and t, u its doors. Wires don't meet
+//! themselves or each other, so all doors of all excursions differ, and as each excursion has two of
+//! them there are at most m excursions. All excursions lie in the half strip right of R, on tracks 1
+//! to s-1, with their doors on its edge. Disjoint curves in it can't interlace: never is one door of
+//! one strictly between the doors of another whose other door is outside. So of two excursions either
+//! one's doors enclose the other's, or they lie side by side. Redraw each: straight right from one
+//! door to column R + k, along that column, and straight back to the other door, where k is 1 for an
+//! excursion that encloses no other, and otherwise one more than the greatest k among those it
+//! encloses. What is drawn lies between its own doors' tracks, so on tracks 1 to s-1 as before. Side
+//! by side they keep to tracks of their own; of two nested ones the outer has its straight parts on
+//! tracks outside the inner's and its upright part further right. They stay disjoint, nothing at or
+//! left of R has changed, and k never passes the number of excursions, which is at most m. The same
+//! on the left of L. This proves the claim.
 //!
 //! Both searches below take one column more than that on each side.
 
@@ -30,7 +34,8 @@ use crate::wires::Point;
 
 /// The columns that are certainly enough, by the argument above and one more on each side.
 pub fn enough_columns(a: &[i32], b: &[i32], s: usize, d: i32) -> (i32, i32) {
-    let margin = (s / 2) as i32 + 1;
+    let tracks_between = (1..s).len();
+    let margin = (tracks_between / 2) as i32 + 1;
     let pads = || a.iter().copied().chain(b.iter().map(|&column| column + d));
     (
         pads().min().expect("at least one pair") - margin,
@@ -46,9 +51,11 @@ fn fits_without_tracks(a: &[i32], b: &[i32], d: i32) -> bool {
 /// Whether a legal wiring exists, column after column over all states.
 ///
 /// Think of the steps of all wires as edges of the grid, each with the number of its wire. Then at
-/// each point of tracks 0 to s-1: a bottom pad has exactly one edge, with its own wire's number;
-/// every other point has none, or exactly two with the same number. An edge up to track s stands at
-/// top pad i alone, and bears number i, for only a wire's last point is on track s.
+/// each point of track 0: a bottom pad has exactly one edge, up, with its own wire's number, and
+/// every other point has none. For a point of track 0 is a wire's first, its bottom pad; an edge
+/// along the track would have two such points, and one of them wouldn't be the first. At each point
+/// of tracks 1 to s-1 there are no edges, or exactly two with the same number. An edge up to track s
+/// stands at top pad i alone, and bears number i, for only a wire's last point is on track s.
 ///
 /// Every wiring without loops gives such edges. Conversely, given such edges, follow them from
 /// bottom pad i: each point met has one way on, all with number i, until the only other end that
@@ -116,14 +123,13 @@ impl ColumnOfPoints {
         }
     }
 
-    /// The rule for the edges at one point.
+    /// The rule for the edges at one point: to the left, down, to the right, up.
     fn point_is_right(&self, track: usize, edges: [u8; 4]) -> bool {
-        let there: Vec<u8> = edges.into_iter().filter(|&edge| edge != 0).collect();
-        if track == 0 && self.bottom != 0 {
-            there.len() == 1 && there[0] == self.bottom
-        } else {
-            there.is_empty() || (there.len() == 2 && there[0] == there[1])
+        if track == 0 {
+            return edges == [0, 0, 0, self.bottom];
         }
+        let there: Vec<u8> = edges.into_iter().filter(|&edge| edge != 0).collect();
+        there.is_empty() || (there.len() == 2 && there[0] == there[1])
     }
 }
 
@@ -140,8 +146,7 @@ pub fn find_wiring(a: &[i32], b: &[i32], s: usize, d: i32) -> Option<Vec<Vec<Poi
         s: s as i32,
         first,
         last,
-        // Every bottom pad is a point of its own wire and so closed to the others from the start.
-        taken: a.iter().map(|&pad| (pad, 0)).collect(),
+        taken: HashSet::new(),
         wires: Vec::new(),
     };
     search.next_wire().then_some(search.wires)
@@ -153,6 +158,8 @@ struct Backtracking<'r> {
     s: i32,
     first: i32,
     last: i32,
+    /// The points between track 0 and track s that wires have. On those two tracks wires have their
+    /// own pads only, which all differ.
     taken: HashSet<Point>,
     wires: Vec<Vec<Point>>,
 }
@@ -166,11 +173,12 @@ impl Backtracking<'_> {
         self.go_on(vec![(self.a[i], 0)])
     }
 
-    /// Tries every way on from the last point of the path of the wire now being laid.
+    /// Tries every way on from the last point of the path of the wire now being laid: up to its top
+    /// pad, or to a point above track 0 and below track s.
     fn go_on(&mut self, path: Vec<Point>) -> bool {
         let i = self.wires.len();
         let (column, track) = *path.last().expect("a path has points");
-        if track == self.s - 1 && column == self.tops[i] {
+        if track + 1 == self.s && column == self.tops[i] {
             let mut whole = path.clone();
             whole.push((column, self.s));
             self.wires.push(whole);
@@ -181,8 +189,7 @@ impl Backtracking<'_> {
         }
         for (across, along) in [(0, 1), (1, 0), (-1, 0), (0, -1)] {
             let (column, track) = (column + across, track + along);
-            let inside =
-                self.first <= column && column <= self.last && 0 <= track && track < self.s;
+            let inside = self.first <= column && column <= self.last && 0 < track && track < self.s;
             if inside && self.taken.insert((column, track)) {
                 let mut longer = path.clone();
                 longer.push((column, track));

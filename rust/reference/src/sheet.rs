@@ -288,7 +288,8 @@ fn take(mut now: Open, kind: u8, line: u8, columns: Vec<i32>, out: &mut Vec<u8>)
     State::Ready
 }
 
-/// The 20 of a complete line and, if it isn't refused, its 21s at the lowest offset.
+/// The 20 of a complete line and, if it isn't refused, its 21s at the lowest offset. None names track
+/// 0, over which every wire goes straight.
 fn answer_open(now: &Open, out: &mut Vec<u8>) {
     let answer = answer_wish(&now.bottom, &now.top, now.wish);
     out.extend(frame_20(now.line, &answer));

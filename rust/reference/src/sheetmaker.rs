@@ -1,7 +1,7 @@
 //! Sheets for the tests: whole ones, and whole ones damaged in every way the text speaks of.
 
 use crate::form::Wish;
-use crate::numbers::{FIRST_COLUMN, LAST_COLUMN, LAST_OFFSET};
+use crate::numbers::{FIRST_COLUMN, LAST_COLUMN, LAST_OFFSET, MOST_TRACKS};
 use crate::random::*;
 use crate::sheet::*;
 
@@ -126,7 +126,7 @@ pub enum Damage {
     OtherCount,
     /// Kinds 11 and 12 exchanged in one frame.
     OtherRow,
-    /// A separation over 2,048 in a header.
+    /// A separation over 2,049 in a header.
     TooManyTracks,
     /// An offset out of range in a header.
     FarOffset,
@@ -361,7 +361,8 @@ pub fn damage(random: &mut Random, frames: &mut Vec<Vec<u8>>, how: Damage) {
             bytes[0] = if bytes[0] == BOTTOM { TOP } else { BOTTOM };
         }),
         Damage::TooManyTracks => rework(random, frames, is_header, |random, bytes| {
-            let s: u16 = random.pick(&[2_049, 4_096, 0x7FFF, 0x8000, 0xFFFE]);
+            let past = MOST_TRACKS as u16 + 1;
+            let s: u16 = random.pick(&[past, 4_096, 0x7FFF, 0x8000, 0xFFFE]);
             bytes[4..6].copy_from_slice(&s.to_be_bytes());
         }),
         Damage::FarOffset => rework(random, frames, is_header, |random, bytes| {

@@ -4,18 +4,29 @@ use std::collections::HashSet;
 
 use crate::numbers::*;
 use crate::rows::{check_offset, check_rows, check_separation};
-use crate::rule::check_fit;
+use crate::rule::{check_fit, rule_at};
 
 /// A grid point: column, track.
 pub type Point = (i32, i32);
 
-/// The s + 1 columns e_0 .. e_s of wire i, by the text. Needs accepted rows and i < n. When (s, d)
-/// doesn't fit it still follows the text, but is then no wire.
+/// The s + 1 columns e_0 .. e_s of wire i, by the text: from s = 1 on the straight step that request
+/// 106 puts below, and above it 01's columns as they were. Needs accepted rows and i < n. When
+/// (s, d) doesn't fit it still follows the text, but is then no wire.
 pub fn columns_of_wire(a: &[i32], b: &[i32], s: usize, d: i32, i: usize) -> Vec<i32> {
+    let mut e = Vec::new();
+    if s >= 1 {
+        e.push(a[i]);
+    }
+    e.extend(columns_of_01(a, b, rule_at(s), d, i));
+    e
+}
+
+/// The r + 1 columns that 01 gives wire i on r tracks, where it may run along the lowest.
+fn columns_of_01(a: &[i32], b: &[i32], r: usize, d: i32, i: usize) -> Vec<i32> {
     let n = a.len();
     let c = b[i] + d;
     let mut e = vec![a[i]];
-    for t in 0..s {
+    for t in 0..r {
         let next = if c >= a[i] {
             if i + t + 1 < n {
                 c.min(a[i + t + 1] - t as i32 - 1)
@@ -116,9 +127,10 @@ fn try_check(a: &[i32], b: &[i32], s: usize, d: i32, table: &[i32]) -> Result<Nu
         for wire in 0..n {
             let wrong_start = track == 0 && e(wire, track) != a[wire];
             let wrong_end = track == s && e(wire, track) != b[wire] + d;
+            let steps_aside = track == 0 && track < s && e(wire, track) != e(wire, track + 1);
             let meets_next =
                 track < s && wire + 1 < n && highest(wire, track) >= lowest(wire + 1, track);
-            if wrong_start || wrong_end || meets_next {
+            if wrong_start || wrong_end || steps_aside || meets_next {
                 return Err(Numbers::refused_at(BADWIRE, wire, track));
             }
         }
@@ -143,7 +155,7 @@ pub fn points_of_wire(e: &[i32]) -> Vec<Point> {
     points
 }
 
-/// Legality as the text defines it, over any lists of grid points.
+/// Legality as the text defines it, request 106 included, over any lists of grid points.
 pub fn legal_wires(a: &[i32], b: &[i32], s: usize, d: i32, wires: &[Vec<Point>]) -> bool {
     let n = a.len();
     let s = s as i32;
@@ -163,10 +175,11 @@ pub fn legal_wires(a: &[i32], b: &[i32], s: usize, d: i32, wires: &[Vec<Point>])
                 return false;
             }
         }
-        // It stays on tracks 0 to s, and only its last point is on track s.
+        // It stays on tracks 0 to s, only its first point is on track 0 and only its last on s.
         for (place, &(_, track)) in wire.iter().enumerate() {
+            let first = place == 0;
             let last = place + 1 == wire.len();
-            if track < 0 || track > s || (track == s) != last {
+            if track < 0 || track > s || (track == 0) != first || (track == s) != last {
                 return false;
             }
         }

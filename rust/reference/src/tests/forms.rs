@@ -59,9 +59,9 @@ fn lines_of_a_form() {
     };
     let mut table = [
         line(0, 2, 4, None, None),
-        line(0, 2, 4, Some(1), None),
+        line(0, 2, 4, Some(2), None),
         line(4, 0, 2, None, Some(5)),
-        line(4, 0, 2, Some(1), Some(-5)),
+        line(4, 0, 2, Some(2), Some(-5)),
         line(5, 0, 2, None, None),
         line(4, 6, 0, None, None),
         line(4, 7, 0, None, None),
@@ -75,9 +75,9 @@ fn lines_of_a_form() {
     );
     assert_eq!(table, before);
     let expected = [
-        with_offsets(2, -1, 1, 14),
+        with_offsets(3, -1, 1, 14),
         Numbers::refused_at(NOOFFSET, 2, 0),
-        at_offset(2, 5, 0, RIGHT),
+        at_offset(3, 5, 0, RIGHT),
         Numbers::no_fit(0, LEFT),
         Numbers::refused(LINE),
         Numbers::refused(EMPTY),

@@ -62,7 +62,8 @@ fn order_of_all_checks() {
     assert_eq!(draw(&good.0, &good.1, 1, 50_000, 2, &mut none), WIRE);
     assert_eq!(draw(&good.0, &good.1, 1, 50_000, 1, &mut none), BUFFER);
     assert_eq!(draw(&good.0, &good.1, 1, 50_000, 1, &mut [0; 2]), NOFIT);
-    assert_eq!(draw(&good.0, &good.1, 2, 50_000, 1, &mut [0; 3]), 0);
+    assert_eq!(draw(&good.0, &good.1, 2, 50_000, 1, &mut [0; 3]), NOFIT);
+    assert_eq!(draw(&good.0, &good.1, 3, 50_000, 1, &mut [0; 4]), 0);
     let table = |s, d, buffer: &mut [i32]| draw_all(&good.0, &good.1, s, d, buffer).refusal;
     assert_eq!(table(9_999, LAST_OFFSET + 1, &mut none), TRACKS);
     assert_eq!(table(1, LAST_OFFSET + 1, &mut none), OFFSET);
@@ -72,7 +73,8 @@ fn order_of_all_checks() {
     let check = |s, d, table: &[i32]| check(&good.0, &good.1, s, d, table).refusal;
     assert_eq!(check(1, 50_000, &[0; 3]), BUFFER);
     assert_eq!(check(1, 50_000, &[0; 4]), BADWIRE);
-    assert_eq!(check(2_049, 50_000, &[0; 4]), TRACKS);
+    assert_eq!(check(2_050, 50_000, &[0; 4]), TRACKS);
+    assert_eq!(check(2_049, 50_000, &[0; 4]), BUFFER);
     assert_eq!(check(1, 131_071, &[0; 4]), OFFSET);
     // The best call has rows and a buffer only.
     assert_eq!(
@@ -214,7 +216,8 @@ fn stretch_is_empty_when_there_is_no_misfit() {
         (vec![1, 2], vec![1], 0, 9),
         (vec![5, 4], vec![1, 2], 0, 9),
         (vec![1, 2], vec![1, 2], 0, 0),
-        (vec![1, 2], vec![1, 2], 2_049, 9),
+        (vec![1, 2], vec![1, 2], 2_050, 9),
+        (vec![1, 2], vec![1, 2], 3, 9),
         (vec![1, 2], vec![1, 2], 0, 131_071),
     ] {
         assert_eq!(stretch(&a, &b, s, d), Stretch::default());
@@ -229,14 +232,16 @@ fn stretch_of_a_misfit() {
     // The narrower row, the bottom row if equal.
     let (a, b) = J;
     let part = |top, start, length| Stretch { top, start, length };
+    // One pad at 0 and at 1, from there on one more a track.
     assert_eq!(stretch(&a, &b, 0, 0), part(false, 0, 1));
-    // (1, 1): x = 0,0,2,2 and y = 1,1,1,1. Pair 0 breaks it: 1 > x_1 - y_0 = -1. Both span 1.
-    assert_eq!(stretch(&a, &b, 1, 1), part(false, 0, 2));
-    // (1, -1): pair 2 breaks it on the left: x_2 - y_3 = 1. Bottom 4,5 and top 3,4.
-    assert_eq!(stretch(&a, &b, 1, -1), part(false, 2, 2));
-    // (2, 2): pair 0, RIGHT: x_2 - y_0 = 1. Bottom 0..4, top 1..3, so the top one.
-    assert_eq!(fit(&a, &b, 2, 2), Numbers::no_fit(0, RIGHT));
-    assert_eq!(stretch(&a, &b, 2, 2), part(true, 0, 3));
-    assert_eq!(stretch_part(&a, &b, 2, 2), &[1, 2, 3]);
-    assert_eq!(stretch_part(&a, &b, 2, 2).as_ptr(), b.as_ptr());
+    assert_eq!(stretch(&a, &b, 1, 0), part(false, 0, 1));
+    // (2, 1): x = 0,0,2,2 and y = 1,1,1,1. Pair 0 breaks it: 1 > x_1 - y_0 = -1. Both span 1.
+    assert_eq!(stretch(&a, &b, 2, 1), part(false, 0, 2));
+    // (2, -1): pair 2 breaks it on the left: x_2 - y_3 = 1. Bottom 4,5 and top 3,4.
+    assert_eq!(stretch(&a, &b, 2, -1), part(false, 2, 2));
+    // (3, 2): pair 0, RIGHT: x_2 - y_0 = 1. Bottom 0..4, top 1..3, so the top one.
+    assert_eq!(fit(&a, &b, 3, 2), Numbers::no_fit(0, RIGHT));
+    assert_eq!(stretch(&a, &b, 3, 2), part(true, 0, 3));
+    assert_eq!(stretch_part(&a, &b, 3, 2), &[1, 2, 3]);
+    assert_eq!(stretch_part(&a, &b, 3, 2).as_ptr(), b.as_ptr());
 }

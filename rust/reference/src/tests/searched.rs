@@ -1,10 +1,11 @@
-//! The rule of fit against a search that knows nothing of it.
+//! The rule of fit against two searches that know nothing of it.
 
 use std::collections::HashSet;
 
 use super::*;
 use crate::numbers::*;
 use crate::random::*;
+use crate::rule::rule_at;
 use crate::search::*;
 use crate::*;
 
@@ -43,7 +44,7 @@ fn every_smallest_jumper() {
     for n in 1..=3 {
         for a in all_rows(n, -2, 2) {
             for b in all_rows(n, -2, 2) {
-                for s in 0..=3 {
+                for s in 0..=4 {
                     for d in -4..=4 {
                         let fits = fit(&a, &b, s, d).refusal == 0;
                         assert_eq!(
@@ -60,6 +61,65 @@ fn every_smallest_jumper() {
     assert!(fitting > 1_000 && misfits > 1_000);
 }
 
+/// The same by backtracking, which lays one wire after the other, on fewer columns.
+#[test]
+fn every_smallest_jumper_by_backtracking() {
+    let (mut fitting, mut misfits) = (0, 0);
+    for n in 1..=3 {
+        for a in all_rows(n, -1, 2) {
+            for b in all_rows(n, -1, 2) {
+                for s in 0..=4 {
+                    for d in -2..=2 {
+                        let found = find_wiring(&a, &b, s, d);
+                        let fits = fit(&a, &b, s, d).refusal == 0;
+                        assert_eq!(fits, found.is_some(), "{a:?} {b:?} at ({s}, {d})");
+                        if let Some(wires) = found {
+                            assert!(legal_wires(&a, &b, s, d, &wires));
+                        }
+                        *(if fits { &mut fitting } else { &mut misfits }) += 1;
+                    }
+                }
+            }
+        }
+    }
+    assert!(fitting > 500 && misfits > 500, "{fitting} {misfits}");
+}
+
+/// A wire of one point on one track and one of two points on two are straight alike.
+#[test]
+fn separations_0_and_1_have_wirings_alike() {
+    let (mut fitting, mut misfits) = (0, 0);
+    for n in 1..=3 {
+        for a in all_rows(n, -2, 2) {
+            for b in all_rows(n, -2, 2) {
+                for d in -4..=4 {
+                    let [at_0, at_1] = [0, 1].map(|s| exists_wiring(&a, &b, s, d));
+                    let [found_0, found_1] = [0, 1].map(|s| find_wiring(&a, &b, s, d).is_some());
+                    assert!(at_0 == at_1 && at_0 == found_0 && at_0 == found_1);
+                    *(if at_0 { &mut fitting } else { &mut misfits }) += 1;
+                }
+            }
+        }
+    }
+    assert!(fitting > 50 && misfits > 1_000, "{fitting} {misfits}");
+}
+
+/// Every offset has a wiring at n + 1, and for every n some rows and offset have none at n.
+#[test]
+fn every_offset_has_a_wiring_only_above_n() {
+    for n in 1..=3 {
+        for a in all_rows(n, -1, 2) {
+            for b in all_rows(n, -1, 2) {
+                for d in [-7, -3, -1, 0, 1, 3, 7] {
+                    assert!(exists_wiring(&a, &b, n + 1, d), "{a:?} {b:?} at {d}");
+                }
+            }
+        }
+        let (a, b) = stairs(n);
+        assert!(!exists_wiring(&a, &b, n, 0));
+    }
+}
+
 #[test]
 fn thousands_of_small_jumpers() {
     let mut random = Random::new(11);
@@ -70,7 +130,7 @@ fn thousands_of_small_jumpers() {
             small_row(&mut random, n, -3, 4),
             small_row(&mut random, n, -3, 4),
         );
-        let (s, d) = (random.below(4), random.between(-6, 6));
+        let (s, d) = (random.below(5), random.between(-6, 6));
         let fits = fit(&a, &b, s, d).refusal == 0;
         assert_eq!(
             fits,
@@ -93,7 +153,7 @@ fn some_larger_jumpers_around_their_least_separation() {
         );
         let d = random.between(-5, 5);
         let s = least(&a, &b, d).separation;
-        if s <= 5 {
+        if s <= 6 {
             assert!(exists_wiring(&a, &b, s, d), "{a:?} {b:?} at ({s}, {d})");
             if s > 0 {
                 assert!(!exists_wiring(&a, &b, s - 1, d), "{a:?} {b:?} below {s}");
@@ -103,8 +163,8 @@ fn some_larger_jumpers_around_their_least_separation() {
 }
 
 /// The two pads that a witness names prevent a wiring: no rows that have them at the same columns
-/// have one, however many other pads they have. RIGHT names top pad i and bottom pad i + s, LEFT
-/// bottom pad i and top pad i + s.
+/// have one, however many other pads they have. With r the number at which the rule is read, RIGHT
+/// names top pad i and bottom pad i + r, LEFT bottom pad i and top pad i + r.
 #[test]
 fn two_pads_prevent_it() {
     let rows: Vec<Vec<i32>> = (1..=3).flat_map(|n| all_rows(n, -2, 2)).collect();
@@ -116,14 +176,14 @@ fn two_pads_prevent_it() {
     // Each pair of pads with a separation and an offset that a witness names.
     let mut named = HashSet::new();
     for (a, b) in jumpers() {
-        for (s, d) in (0..a.len()).flat_map(|s| (-4..=4).map(move |d| (s, d))) {
+        for (s, d) in (0..=a.len()).flat_map(|s| (-4..=4).map(move |d| (s, d))) {
             let answer = fit(a, b, s, d);
             if answer.refusal == NOFIT {
-                let i = answer.pair;
+                let (i, other) = (answer.pair, answer.pair + rule_at(s));
                 let (below, above) = if answer.side == RIGHT {
-                    (i + s, i)
+                    (other, i)
                 } else {
-                    (i, i + s)
+                    (i, other)
                 };
                 named.insert((s, d, (below, a[below]), (above, b[above])));
             }
@@ -151,7 +211,7 @@ fn two_searches_agree() {
             small_row(&mut random, n, -2, 3),
             small_row(&mut random, n, -2, 3),
         );
-        let (s, d) = (random.below(4), random.between(-2, 2));
+        let (s, d) = (random.below(5), random.between(-2, 2));
         match find_wiring(&a, &b, s, d) {
             Some(wires) => {
                 assert!(legal_wires(&a, &b, s, d, &wires));
@@ -176,7 +236,7 @@ fn more_columns_change_nothing() {
             small_row(&mut random, n, -3, 4),
             small_row(&mut random, n, -3, 4),
         );
-        let (s, d) = (random.below(4), random.between(-4, 4));
+        let (s, d) = (random.below(5), random.between(-4, 4));
         let (first, last) = enough_columns(&a, &b, s, d);
         assert_eq!(
             exists_wiring(&a, &b, s, d),
@@ -195,7 +255,7 @@ fn best_offsets_by_search() {
             small_row(&mut random, n, -3, 3),
             small_row(&mut random, n, -3, 3),
         );
-        for s in 0..n.min(3) {
+        for s in 0..=n {
             let there: Vec<i32> = (-9..=9).filter(|&d| exists_wiring(&a, &b, s, d)).collect();
             let answer = range(&a, &b, s);
             if answer.refusal == NOOFFSET {
@@ -210,11 +270,16 @@ fn best_offsets_by_search() {
 
 #[test]
 fn worked_jumpers_by_search() {
-    assert!(exists_wiring(&J.0, &J.1, 2, 0));
-    assert!(!exists_wiring(&J.0, &J.1, 1, 0));
-    assert!(!exists_wiring(&K.0, &K.1, 1, -5));
-    assert!(exists_wiring(&K.0, &K.1, 1, -4));
+    assert!(exists_wiring(&J.0, &J.1, 3, 0));
+    assert!(!exists_wiring(&J.0, &J.1, 2, 0));
+    assert!(!exists_wiring(&K.0, &K.1, 2, -5));
+    assert!(exists_wiring(&K.0, &K.1, 2, -4));
+    assert!(!exists_wiring(&K.0, &K.1, 1, -4));
     assert!(exists_wiring(&S.0, &S.1, 0, -1));
-    assert!(exists_wiring(&[0], &[9], 1, 0));
+    assert!(exists_wiring(&S.0, &S.1, 1, -1));
+    assert!(!exists_wiring(&[0, 1, 3], &[1, 2, 4], 2, 0));
+    assert!(exists_wiring(&[0, 1, 3], &[1, 2, 4], 3, 0));
+    assert!(exists_wiring(&[0], &[9], 2, 0));
+    assert!(!exists_wiring(&[0], &[9], 1, 0));
     assert!(!exists_wiring(&[0], &[9], 0, 0));
 }

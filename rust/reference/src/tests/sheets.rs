@@ -45,6 +45,8 @@ fn short(sheet: &[u8]) -> Vec<(u8, u8, u8)> {
                 }
                 0x21 => {
                     assert_eq!(bytes.len(), 15);
+                    // Never on track 0.
+                    assert_ne!(bytes[4..6], [0, 0]);
                     assert_ne!(bytes[6..10], bytes[10..14]);
                     (0x21, bytes[1], 0)
                 }
@@ -77,7 +79,13 @@ const BAD: &[u8] = b"hello\n";
 #[test]
 fn example_byte_for_byte() {
     let sheet = b"10000002FFFF00000000F0\n1100020000000000000001EC\n1200020000000100000002E9\n";
-    let expected = b"20000000020000000000000000000001DD\n2100000000010000000000000001DD\n2100000100000000000100000002DB\n";
+    let expected = [
+        "20000000030000000000000000000001DC\n",
+        "2100000000020000000000000001DC\n",
+        "2100000100010000000100000002DA\n",
+    ]
+    .concat()
+    .into_bytes();
     assert_eq!(answer_sheet(sheet), expected);
     let made = [
         frame_10(0, 2, LEAST, 0),
@@ -292,26 +300,26 @@ fn refused_wishes() {
         TRACKS
     );
     assert_eq!(one_refusal(0xFFFE, BEST, &[1, 2], &[1, 7]), TRACKS);
+    assert_eq!(one_refusal(2_050, BEST, &[1, 2], &[1, 7]), TRACKS);
+    assert_eq!(one_refusal(2_049, 0, &[1, 2], &[1, 7]), 0);
     assert_eq!(
-        one_refusal(2_048, LAST_OFFSET + 1, &[1, 2], &[1, 7]),
+        one_refusal(2_049, LAST_OFFSET + 1, &[1, 2], &[1, 7]),
         OFFSET
     );
     assert_eq!(one_refusal(LEAST, i32::MIN + 1, &[1, 2], &[1, 7]), OFFSET);
     assert_eq!(one_refusal(1, 9, &[1, 2], &[1, 7]), NOFIT);
     assert_eq!(one_refusal(0, BEST, &[1, 2], &[1, 7]), NOOFFSET);
+    assert_eq!(one_refusal(1, BEST, &[1, 2], &[1, 7]), NOOFFSET);
     // NOFIT keeps its pair and side: pair 0, RIGHT.
-    let answer = answer_sheet(&line(1, 9, &[1, 2], &[1, 7]).concat());
+    let answer = answer_sheet(&line(2, 9, &[1, 2], &[1, 7]).concat());
     assert_eq!(answer, frame_20(1, &Numbers::no_fit(0, RIGHT)));
-    // A range at s >= n is drawn at the lowest accepted offset.
-    let answer = answer_sheet(&line(1, BEST, &[5], &[5]).concat());
-    let numbers = Numbers {
-        separation: 1,
-        lowest: -131_070,
-        highest: 131_070,
-        ..Numbers::default()
-    };
-    let expected = [frame_20(1, &numbers), frame_21(1, 0, 0, 5, -131_065)].concat();
+    // A range at s > n is drawn at the lowest accepted offset; at n it has ends of its own.
+    let answer = answer_sheet(&line(2, BEST, &[5], &[5]).concat());
+    let numbers = super::with_offsets(2, -131_070, 131_070, 0);
+    let expected = [frame_20(1, &numbers), frame_21(1, 0, 1, 5, -131_065)].concat();
     assert_eq!(answer, expected);
+    let answer = answer_sheet(&line(1, BEST, &[5], &[5]).concat());
+    assert_eq!(answer, frame_20(1, &super::with_offsets(1, 0, 0, 0)));
 }
 
 #[test]
@@ -326,16 +334,16 @@ fn j_on_a_sheet() {
     ];
     let answer = answer_sheet(&sheet.concat());
     let numbers = Numbers {
-        separation: 2,
+        separation: 3,
         lowest: -1,
         highest: 1,
         ..Numbers::default()
     };
-    // At -1 the top pads are 0,1,2,3: wires 0 / 1 / 4,2,2 / 5,5,3 by the text's rule.
+    // At -1 the top pads are 0,1,2,3: wires 0 / 1 / 4,4,2,2 / 5,5,5,3 by the text's rule.
     let expected = [
         frame_20(9, &numbers),
-        frame_21(9, 2, 0, 4, 2),
-        frame_21(9, 3, 1, 5, 3),
+        frame_21(9, 2, 1, 4, 2),
+        frame_21(9, 3, 2, 5, 3),
     ]
     .concat();
     assert_eq!(
