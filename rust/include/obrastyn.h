@@ -13,6 +13,10 @@
 #define OBRASTYN_LOWEST_OFFSET (-131070)
 #define OBRASTYN_HIGHEST_OFFSET 131070
 
+/* The greatest separation; beyond it is refusal 6 (TRACKS). No rows need more. A wire leaves its bottom pad straight up, as beside a stiffener: only its first
+   point stands on track 0, and only its last on track s. So separations 0 and 1 fit alike, and a least or best separation is never 1. */
+#define OBRASTYN_MOST_TRACKS 2049
+
 /* All the result numbers of an answer; what an answer doesn't speak of is 0. */
 typedef struct {
     uint8_t refusal;   /* 0, or 1 to 16 */
@@ -28,25 +32,26 @@ typedef struct {
 
 /* Refusals 1 to 5. */
 obrastyn_numbers obrastyn_rows(const int32_t *a, size_t an, const int32_t *b, size_t bn);
-/* Does separation s fit at offset d? Refusals 1 to 7, then 10. */
+/* Does separation s fit at offset d? If not, pads pair and pair + s - 1 prevent it (at separation 0 both pads of the pair). Refusals 1 to 7, then 10. */
 obrastyn_numbers obrastyn_fit(const int32_t *a, size_t an, const int32_t *b, size_t bn, size_t s, int32_t d);
-/* The least separation at offset d. Refusals 1 to 5, then 7. */
+/* The least separation at offset d, at most one more than there are pairs; above 0 the witness at one track fewer. Refusals 1 to 5, then 7. */
 obrastyn_numbers obrastyn_least(const int32_t *a, size_t an, const int32_t *b, size_t bn, int32_t d);
-/* The offsets that fit at separation s. Where s is the number of pairs or more, all do, and the range is that of the accepted ones. Refusals 1 to 6, then 11. */
+/* The offsets that fit at separation s. Where s is above the number of pairs, all do, and the range is that of the accepted ones. Refusals 1 to 6, then 11. */
 obrastyn_numbers obrastyn_range(const int32_t *a, size_t an, const int32_t *b, size_t bn, size_t s);
-/* The best separation; the ladder goes to the front of the buffer (24 numbers are always enough). Refusals 1 to 5, then 9. */
+/* The best separation; the ladder goes to the front of the buffer (24 numbers are always enough). The ladder's numbers are the halving's own: 0 for a best
+   separation of 0, else one less than it. Refusals 1 to 5, then 9. */
 obrastyn_numbers obrastyn_best(const int32_t *a, size_t an, const int32_t *b, size_t bn, size_t *ladder, size_t room);
-/* One wire into s + 1 places. Refusals 1 to 10. */
+/* One wire into s + 1 places: the column on which it enters each track; the first two are its bottom pad's. Refusals 1 to 10. */
 obrastyn_numbers obrastyn_draw_wire(const int32_t *a, size_t an, const int32_t *b, size_t bn, size_t s, int32_t d, size_t wire,
                                     int32_t *out, size_t room);
 /* All wires, wire after wire, into n(s + 1) places. Refusals 1 to 7, 9 and 10. */
 obrastyn_numbers obrastyn_draw_all(const int32_t *a, size_t an, const int32_t *b, size_t bn, size_t s, int32_t d, int32_t *out,
                                    size_t room);
-/* Is a table of n(s + 1) columns a legal wiring? Refusals 1 to 7, 9 and 16. */
+/* Is a table of n(s + 1) columns a legal wiring? A wire that steps aside on track 0 is at fault there. Refusals 1 to 7, 9 and 16. */
 obrastyn_numbers obrastyn_check(const int32_t *a, size_t an, const int32_t *b, size_t bn, size_t s, int32_t d, const int32_t *table,
                                 size_t room);
 
-/* Where the stretch at fault lies: row 0 is the bottom row, 1 the top row; no pads where there is no misfit. */
+/* Where the stretch at fault lies: row 0 is the bottom row, 1 the top row; no pads where there is no misfit, else s pads (one at separation 0). */
 typedef struct {
     uint8_t row;
     size_t start;

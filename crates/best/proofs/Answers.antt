@@ -8,7 +8,7 @@ use borrow.Author.Tests.{lt-ltb, le-ltb}
 use lib.ListN.{length}
 use lib.IntN.{ℤ}
 use Rattle.whole.proofs.Arith.{up, down, arithℤ}
-use Rattle.wiring.specs.Wiring.{pad}
+use Rattle.wiring.specs.Wiring.{pad, HasWiring}
 use Rattle.wiring.specs.Fit.{leanOf}
 use Rattle.wiring.specs.Tracks.{ruleAt, tracksFor}
 use Rattle.wiring.proofs.Rule.{lean-steady}
@@ -21,11 +21,12 @@ use Rattle.jumper.specs.declared.rows.Checked.the-variants.{Accepted, Refused a
 use Rattle.jumper.proofs.Accepted.{numbered, refused-not, rows-of, of-rows}
 use Rattle.jumper.proofs.Checks.{early-rows}
 use Rattle.jumper.proofs.Spans.{range-exactly}
-use Rattle.jumper.proofs.Wired.{wiring-exactly}
+use Rattle.jumper.proofs.Wired.{wiring-exactly, wired-first}
 use Rattle.best.specs.Halving.{levels}
-use Rattle.best.specs.Best.{halvingOf, ladderOf, bestAnswer, BestAnswer}
+use Rattle.best.specs.Best.{bestNumbers, halvingOf, ladderOf, bestAnswer, BestAnswer}
 use Rattle.best.specs.Work.{Plannable, IsPlanned}
 use Rattle.best.specs.declared.plan.Planned.{Planned}
+use Rattle.best.specs.declared.plan.Best.{Best}
 use Rattle.best.specs.declared.plan.Best.the-variants.{Found, Refused}
 use Rattle.best.proofs.Bests.{BestOf, best-is-best, count-fixed, count-cheap, ladder-length}
 
@@ -100,3 +101,10 @@ module _ (a b : List ℤ) (before : List ℕ) where
 
     pub plannable : 2 * levels (length a) ≤ length before → Plannable a b before
     plannable h = record { rows = rows; rungs = h }
+
+-- "a .. best separation of 0 stays and any other grows by one" (02, #106): none is 1, since what fits at 1 fits at 0
+pub best-not-one : {a b : List ℤ} {before after : List ℕ} {r : Best} → BestAnswer a b before after r → bestNumbers r .refusal ≡ 0 → bestNumbers r .separation ≡ 1 → ⊥
+best-not-one {a} {b} {before} {after} {r} h z e =
+    let d = bestNumbers r .lowest in
+    let w : HasWiring a b (bestNumbers r .separation) d = h .exactly z d .1 (record { low = omega arithℤ; high = h .some z }) in
+    h .none z 0 (omega arith) d (wired-first (h .accepts .0 z .0) d (rw e at w))

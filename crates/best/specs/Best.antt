@@ -1,4 +1,4 @@
--- THE PROMISE of the best call (01, "Best separation by halving"; refusals 1 to 5, then 9). Callers cite this.
+-- THE PROMISE of the best call (01, "Best separation by halving"; 02, #106; refusals 1 to 5, then 9). Callers cite this.
 use mathlib.Core.Bool.{Bool, true, false}
 use mathlib.Core.Path.{_≡_}
 use mathlib.Core.List.{List, _++_}
@@ -27,7 +27,8 @@ abbrev pub bestNumbers : Best → Numbers
 bestNumbers (Found p) = record { refusal = 0; place = 0; second = 0; separation = p .separation; lowest = p .range .low; highest = p .range .high; pair = 0; side = 0; count = p .count }
 bestNumbers (Refused r) = refusalNumbers r
 
--- the rule's halving of two rows, its ladder, and what it says of them: the separation that its best serves, and the range of the rule there
+-- the rule's halving of two rows, its ladder, and what it says of them: the separation that its best serves, and the range of the rule there.
+-- 02: "The halving and its count keep the old numbers inside"; the answer's separation is the one that the best of these serves
 abbrev pub halvingOf : (a b : List ℤ) → Halving
 halvingOf a b = halving (length a) (leanOf a) (leanOf b)
 
@@ -70,7 +71,7 @@ pub record BestAnswer (a b : List ℤ) (before after : List ℕ) (r : Best) : Ty
   pub some : bestNumbers r .refusal ≡ 0 → bestNumbers r .lowest ≤ℤ bestNumbers r .highest
   -- at any smaller separation no wiring of any shape is legal at any whole-number offset
   pub none : bestNumbers r .refusal ≡ 0 → (t : ℕ) → t < bestNumbers r .separation → (d : ℤ) → HasWiring a b t d → ⊥
-  -- "the best separation is at most half the number of pairs" (003, lemma 2), so it is below their number
+  -- its number is "at most half the number of pairs" (003, lemma 2), so below their number
   pub within : bestNumbers r .refusal ≡ 0 → 2 * ruleAt (bestNumbers r .separation) ≤ length a
   pub below : bestNumbers r .refusal ≡ 0 → ruleAt (bestNumbers r .separation) < length a
   -- "The count is therefore fixed by the ladder", and at most 12 are read for each pair

@@ -2,7 +2,7 @@
 -- left open.
 --
 -- Worked: J = rows 0,1,4,5 and 1,2,3,4 has the ladder 4:2, 2:1, 1:0. Two pairs, h = 0: 0 is tried (4 differences) and is empty, so 1.
--- Four pairs, h = 1: 1 is tried (6) and is empty, 2 is tried (4) and is not. The count is 14.
+-- Four pairs, h = 1: 1 is tried (6) and is empty, 2 is tried (4) and is not. The count is 14. So J's best number is 2, which serves a separation of 3.
 use mathlib.Core.Bool.{Bool, cond}
 use mathlib.Core.List.{List, [], _∷_}
 use Prim.Native.Nat.{ℕ, zero, suc, _+_, _-_, _*_}

@@ -26,10 +26,11 @@ use Rattle.jumper.specs.declared.rows.Checked.the-variants.{Refused}
 use Rattle.jumper.proofs.Accepted.{numbered, refused-not}
 use Rattle.jumper.proofs.Checks.{shift-accepted}
 use Rattle.fit.specs.Misfit.{tooRight, tooLeft, isRight, misfitFrom, misfitOf}
-use Rattle.fit.specs.Least.{breaksAt, leastOf, withWitness, LeastAnswer}
+use Rattle.fit.specs.Least.{leastNumbers, breaksAt, leastOf, withWitness, LeastAnswer}
 use Rattle.fit.specs.declared.misfit.Misfit.the-variants.{None, At}
+use Rattle.fit.specs.declared.least.Least.{Least}
 use Rattle.fit.specs.declared.least.Least.the-variants.{Straight, Tracks, Refused as NoLeast}
-use Rattle.jumper.proofs.Wired.{wiring-exactly, tracks-given}
+use Rattle.jumper.proofs.Wired.{wiring-exactly, wired-first, tracks-given}
 use Rattle.fit.proofs.Misfits.{Free, not-here, none-fits, at-broken, broken-inside, broken-breaks, at-witness, free-before}
 
 -- pair i, by the test
@@ -224,3 +225,7 @@ module _ (a b : List ℤ) (d : ℤ) (k : AcceptedShift a b d) (s i : ℕ) (right
       let f = seek-done e in
       let g : t ≡ tracksFor s = q ∙ tracks-given s (omega (arith, c .below, k .rows .few)) in
       rw (g, f) (tracks a b d k i (sideOf right) (rw f at h) (rw f at (c .last h)))
+
+-- "a least .. separation of 0 stays and any other grows by one" (02, #106): none is 1, since what fits at 1 fits at 0
+pub least-not-one : {a b : List ℤ} {d : ℤ} {r : Least} → LeastAnswer a b d r → leastNumbers r .refusal ≡ 0 → leastNumbers r .separation ≡ 1 → ⊥
+least-not-one {a} {b} {d} {r} l z e = l .least z 0 (omega arith) (wired-first (l .accepts .0 z .rows) d (rw e at (l .fits z)))

@@ -1,4 +1,4 @@
--- The least separation at an offset (01, "Rules of fit"; refusals 1 to 5, then 7).
+-- The least separation at an offset (01, "Rules of fit"; 02, #106; refusals 1 to 5, then 7).
 use mathlib.Core.Bool.{Bool, true, cond}
 use mathlib.Core.Path.{_≡_}
 use mathlib.Core.List.{List}
@@ -44,7 +44,8 @@ withWitness (suc s) (At i k) = Tracks (tracksFor (suc s)) i k
 abbrev pub leastAnswer : (a b : List ℤ) (d : ℤ) → Least
 leastAnswer a b d = unlessRefused (checkOffset a b d) NoLeast (withWitness (leastOf (leanOf a) (leanOf b) d (length a)) (misfitOf a b (leastOf (leanOf a) (leanOf b) d (length a) - 1) d))
 
--- What `least_at` promises: "the least s that fits, at most n. For s > 0 the answer also shows the witness at s - 1."
+-- What `least_at` promises: the least separation that fits, 0 or at most one more than there are pairs; above 0 "the answer also shows the witness" at one
+-- track fewer.
 pub record LeastAnswer (a b : List ℤ) (d : ℤ) (r : Least) : Type 0 where
   pub answer : r ≡ leastAnswer a b d
   pub accepts : (leastNumbers r .refusal ≡ 0) ↔ AcceptedShift a b d

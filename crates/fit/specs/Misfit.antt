@@ -1,4 +1,4 @@
--- The witness of a misfit and the answer of `fit` (01, "Rules of fit", refusals 1 to 7 and 10).
+-- The witness of a misfit and the answer of `fit` (01, "Rules of fit", refusals 1 to 7 and 10; 02, #106: "the witness (pads i and i+t-1 for t >= 1 ..)").
 use mathlib.Core.Bool.{Bool, true, false, cond}
 use mathlib.Core.Path.{_≡_}
 use mathlib.Core.List.{List}
@@ -56,7 +56,7 @@ PadsPrevent a b s d i j = (a' b' : List ℤ) → AcceptedRows a' b' → (i < len
 pub record Witness (a b : List ℤ) (s : ℕ) (d : ℤ) (i side : ℕ) : Type 0 where
   pub breaks : ((side ≡ 1) × TooRight (length a) (ruleAt s) (leanOf a) (leanOf b) d i) ⊎ ((side ≡ 2) × TooLeft (length a) (ruleAt s) (leanOf a) (leanOf b) d i)
   pub least : (j : ℕ) → j < i → (TooRight (length a) (ruleAt s) (leanOf a) (leanOf b) d j → ⊥) × (TooLeft (length a) (ruleAt s) (leanOf a) (leanOf b) d j → ⊥)
-  -- "top pad i is too far right for bottom pad i+s", and its mirror: these are the two pads that prevent a wiring
+  -- "top pad i is too far right for bottom pad i+s", s being the rule's number, and its mirror: these are the two pads that prevent a wiring
   pub pads : ((side ≡ 1) × PadsPrevent a b s d (i + ruleAt s) i) ⊎ ((side ≡ 2) × PadsPrevent a b s d i (i + ruleAt s))
 
 -- What `fit` promises. Demand 2: it says "fits" exactly when all is accepted and a legal wiring exists, and NOFIT exactly when all

@@ -1,4 +1,4 @@
--- The offset range at a separation (01, "Rules of fit"; refusals 1 to 6, then 11).
+-- The offset range at a separation (01, "Rules of fit"; 02, #106; refusals 1 to 6, then 11).
 use mathlib.Core.Bool.{cond}
 use mathlib.Core.Path.{_≡_}
 use mathlib.Core.List.{List}
@@ -37,7 +37,7 @@ highGap a b s i = pad a (i + s) -ℤ pad b i
 abbrev pub gapsOf : (a b : List ℤ) (s : ℕ) → OffsetRange
 gapsOf a b s = record { low = largest (lowGap a b s) (length a - s - 1); high = smallest (highGap a b s) (length a - s - 1) }
 
--- "For s >= n the range given is that of the accepted offsets."
+-- "For s >= n the range given is that of the accepted offsets": s is the rule's number here, so "every offset fits only above n" tracks (02, #106)
 abbrev pub rangeFound : (n : ℕ) (x y : ℕ → ℤ) (s : ℕ) → Offsets
 rangeFound n x y s =
     cond (ltb s n)

@@ -1,5 +1,6 @@
 -- The stretch at fault (01): "for a misfit, the pads i to i+s of the row in which they span fewer columns (last less first), the bottom row if
--- equal .. In every other case it is an empty part at the bottom row's start."
+-- equal .. In every other case it is an empty part at the bottom row's start." By 02's #106 they are the witness's pads, "from the one to the other":
+-- s pads at separation s, one at 0.
 use mathlib.Core.Bool.{cond}
 use mathlib.Core.List.{List, []}
 use mathlib.Core.Path.{_≡_}

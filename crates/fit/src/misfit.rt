@@ -85,9 +85,12 @@ pub fn fit(a: &[i32], b: &[i32], s: usize, d: i32) -> Checked
 {
     match check_asked(a, b, s, d) {
         Checked::Refused(r) => Checked::Refused(r),
-        Checked::Accepted => match first_misfit(a, b, rule_at(s), d) {
-            Misfit::None => Checked::Accepted,
-            Misfit::At(i, side) => Checked::Refused(Refusal::NoFit(i, side)),
-        },
+        Checked::Accepted => {
+            let r = rule_at(s);
+            match first_misfit(a, b, r, d) {
+                Misfit::None => Checked::Accepted,
+                Misfit::At(i, side) => Checked::Refused(Refusal::NoFit(i, side)),
+            }
+        }
     }
 }

@@ -47,7 +47,10 @@ pub fn range_at(a: &[i32], b: &[i32], s: usize) -> Offsets
 {
     match check_tracks(a, b, s) {
         Checked::Refused(r) => Offsets::Refused(r),
-        Checked::Accepted => range_found(a, b, rule_at(s)),
+        Checked::Accepted => {
+            let r = rule_at(s);
+            range_found(a, b, r)
+        }
     }
 }
 

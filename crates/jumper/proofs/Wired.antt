@@ -12,7 +12,7 @@ use Rattle.wiring.specs.Fit.{leanOf, Fits}
 use Rattle.wiring.specs.Tracks.{ruleAt, tracksFor}
 use Rattle.wiring.proofs.Rule.{spread}
 use Rattle.wiring.proofs.Serves.{rule-most, tracks-near}
-use Rattle.wiring.proofs.Theorem.{fit-exactly}
+use Rattle.wiring.proofs.Theorem.{fit-exactly, first-track, every-offset}
 use Rattle.jumper.specs.Limits.{maxPairs, maxTracks, firstColumn, lastColumn, lowestOffset, highestOffset, AcceptedColumn, AcceptedOffset}
 use Rattle.jumper.specs.Rows.{AcceptedRow, AcceptedRows}
 use Rattle.jumper.specs.Asked.{AcceptedTracks, Asked}
@@ -20,6 +20,13 @@ use Rattle.jumper.specs.Asked.{AcceptedTracks, Asked}
 -- the theorem of fit, of accepted rows
 pub wiring-exactly : {a b : List ℤ} → AcceptedRows a b → (s : ℕ) (d : ℤ) → HasWiring a b s d ↔ Fits (length a) (ruleAt s) (leanOf a) (leanOf b) d
 wiring-exactly {a} {b} r s d = fit-exactly (length a) s (pad a) (pad b) d (r .bottom .rising) (rw (r .equal) (r .top .rising))
+
+-- the first track wins nothing, and every whole-number offset fits exactly above n (02, #106)
+pub wired-first : {a b : List ℤ} → AcceptedRows a b → (d : ℤ) → HasWiring a b 1 d → HasWiring a b 0 d
+wired-first {a} {b} r d = first-track (length a) (pad a) (pad b) d (r .bottom .rising) (rw (r .equal) (r .top .rising))
+
+pub wired-every : {a b : List ℤ} → AcceptedRows a b → (s : ℕ) → ((d : ℤ) → HasWiring a b s d) ↔ (length a < s)
+wired-every {a} {b} r s = every-offset (length a) s (pad a) (pad b) (r .some) (r .bottom .rising) (rw (r .equal) (r .top .rising))
 
 -- what is asked at a separation is accepted where the rule is read
 pub tracks-rule : {a b : List ℤ} {s : ℕ} → AcceptedTracks a b s → AcceptedTracks a b (ruleAt s)

@@ -71,5 +71,6 @@ pub(crate) fn column(a: &[i32], c: i32, i: usize, t: usize) -> i32
     requires { ⌜ AcceptedRow (now a) × (i < length (now a)) × (t ≤ maxTracks) ⌝ }
     ensures { λ r. ⌜ r ≡ columnAt (length (now (a .entry))) (pad (now (a .entry))) c i t ⌝ }
 {
-    entry_of(a, c, i, rule_at(t))
+    let r = rule_at(t);
+    entry_of(a, c, i, r)
 }

@@ -26,7 +26,7 @@ pub lean-steady : {n : ℕ} {a : ℕ → ℤ} → Rising n a → Steady n (lean 
 lean-steady {n} {a} r i j h l = omega (arithℤ, spread r (j - i) i j (omega arith) l, sum (a i) (pos (j - i)), dif (a i) (pos i), dif (a j) (pos j))
 
 module _ {n : ℕ} {x y : ℕ → ℤ} (sx : Steady n x) (sy : Steady n y) where
-  -- the ends that pair i sets lie within those that it, or the pair after it, sets with one track less
+  -- the ends that pair i sets lie within those that it, or the pair after it, sets at one less
   pub ends-next : (s i : ℕ) → i + suc s < n → (lowEnd x y (suc s) i ≤ℤ lowEnd x y s i) × (highEnd x y s i ≤ℤ highEnd x y (suc s) i)
   ends-next s i h = (
     omega (arithℤ, dif (x i) (y (i + suc s)), dif (x i) (y (i + s)), sy (i + s) (i + suc s) (omega arith) h),

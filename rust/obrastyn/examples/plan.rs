@@ -12,7 +12,7 @@ fn main() {
     for (wire, columns) in route.chunks(s + 1).enumerate() {
         println!("wire {wire} enters tracks 0 to {s} on columns {columns:?}");
     }
-    let told = obrastyn::fit(&below, &above, 1, 0);
-    println!("at separation 1, offset 0: refusal {} (NOFIT), pair {}, side {}", told.refusal, told.pair, told.side);
+    let told = obrastyn::fit(&below, &above, s - 1, 0);
+    println!("at separation {}, offset 0: refusal {} (NOFIT), pair {}, side {}", s - 1, told.refusal, told.pair, told.side);
     println!("the checker says of the route: refusal {}", obrastyn::check(&below, &above, s, 0, &route).refusal);
 }

@@ -40,7 +40,7 @@ fn main() {
     for (name, bytes) in [
         ("64 lines of 2048 pairs, sparse routes", sparse),
         ("64 lines of 2048 pairs, dense routes", dense),
-        ("64 lines of 2048 pairs, 2048 tracks", long),
+        ("64 lines of 2048 pairs, 2049 tracks", long),
         ("50 MB of damaged lines", damaged),
     ] {
         let path = std::env::temp_dir().join("obrastyn-sheet");

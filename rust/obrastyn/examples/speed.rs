@@ -15,10 +15,10 @@ fn rule(n: usize, tight: bool) {
     row(&format!("rows, {n} pairs, {kind}"), race(|| obrastyn::rows(black_box(x), black_box(y)), || baseline::accept_rows(black_box(x), black_box(y))));
     row(&format!("rows, {n} pairs, {kind}, last at fault"), race(|| obrastyn::rows(black_box(x), black_box(&faulty)), || baseline::accept_rows(black_box(x), black_box(&faulty))));
     row(&format!("fit, {n} pairs, {kind}, at the least"), race(|| obrastyn::fit(black_box(x), black_box(y), least, 0), || baseline::fit(black_box(x), black_box(y), least, 0)));
-    row(&format!("fit, {n} pairs, {kind}, at 1"), race(|| obrastyn::fit(black_box(x), black_box(y), 1, 0), || baseline::fit(black_box(x), black_box(y), 1, 0)));
+    row(&format!("fit, {n} pairs, {kind}, at 2"), race(|| obrastyn::fit(black_box(x), black_box(y), 2, 0), || baseline::fit(black_box(x), black_box(y), 2, 0)));
     row(&format!("least, {n} pairs, {kind}"), race(|| obrastyn::least(black_box(x), black_box(y), 0), || baseline::least(black_box(x), black_box(y), 0)));
     row(&format!("range, {n} pairs, {kind}, at the least"), race(|| obrastyn::range(black_box(x), black_box(y), least), || baseline::range(black_box(x), black_box(y), least)));
-    row(&format!("range, {n} pairs, {kind}, at 1"), race(|| obrastyn::range(black_box(x), black_box(y), 1), || baseline::range(black_box(x), black_box(y), 1)));
+    row(&format!("range, {n} pairs, {kind}, at 2"), race(|| obrastyn::range(black_box(x), black_box(y), 2), || baseline::range(black_box(x), black_box(y), 2)));
     let (mut ours, mut plain) = ([0usize; 24], [0usize; 24]);
     row(&format!("best, {n} pairs, {kind}"), race(|| obrastyn::best(black_box(x), black_box(y), &mut ours), || baseline::best_with_ladder(black_box(x), black_box(y), &mut plain)));
     row(&format!("best, {n} pairs, {kind}, against copies"), race(|| obrastyn::best(black_box(x), black_box(y), &mut ours), || baseline::best_by_copies(black_box(x), black_box(y), &mut plain)));

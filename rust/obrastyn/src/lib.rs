@@ -8,12 +8,20 @@
 //! let (below, above) = ([0, 1, 4, 5], [1, 2, 3, 4]);
 //! let mut ladder = [0; 24];
 //! let best = obrastyn::best(&below, &above, &mut ladder);
-//! assert_eq!((best.refusal, best.separation, best.lowest, best.highest), (0, 2, -1, 1));
+//! assert_eq!((best.refusal, best.separation, best.lowest, best.highest), (0, 3, -1, 1));
 //!
-//! let mut route = [0; 4 * 3];
-//! assert_eq!(obrastyn::draw_all(&below, &above, 2, 0, &mut route).refusal, 0);
-//! assert_eq!(route, [0, 0, 1, 1, 2, 2, 4, 3, 3, 5, 5, 4]);
-//! assert_eq!(obrastyn::check(&below, &above, 2, 0, &route).refusal, 0);
+//! let mut route = [0; 4 * 4];
+//! assert_eq!(obrastyn::draw_all(&below, &above, 3, 0, &mut route).refusal, 0);
+//! assert_eq!(route, [0, 0, 0, 1, 1, 1, 2, 2, 4, 4, 3, 3, 5, 5, 5, 4]);
+//! assert_eq!(obrastyn::check(&below, &above, 3, 0, &route).refusal, 0);
+//! ```
+//!
+//! A wire leaves its bottom pad straight up, as beside a stiffener: only its first point stands on track 0, and only its last on track s.
+//!
+//! ```
+//! // on the way from 1 to 2 nobody is in wire 1's way on track 0, and still it may not step aside there: 16, BADWIRE, wire 1, track 0
+//! let told = obrastyn::check(&[0, 1], &[1, 2], 3, 0, &[0, 0, 0, 1, 1, 2, 2, 2]);
+//! assert_eq!((told.refusal, told.place, told.second), (16, 1, 0));
 //! ```
 
 /// The least column that a pad may stand on. Pads may stand left of the datum (column 0), right of it, or on both sides.
@@ -36,6 +44,9 @@ pub const LOWEST_OFFSET: i32 = -131070;
 /// The greatest offset that is accepted.
 pub const HIGHEST_OFFSET: i32 = 131070;
 
+/// The greatest separation that is accepted; beyond it is TRACKS. No rows need more: [`least`] answers at most one more than there are pairs.
+pub const MOST_TRACKS: usize = 2049;
+
 /// All the result numbers of an answer (01, "What comes back"). What an answer doesn't speak of is 0.
 #[repr(C)]
 #[derive(Clone, Copy, Debug, Default, PartialEq, Eq)]
@@ -49,7 +60,8 @@ pub struct Numbers {
     pub separation: usize,
     pub lowest: i32,
     pub highest: i32,
-    /// The witness: the least pair that prevents a wiring, and its side (1 RIGHT, 2 LEFT).
+    /// The witness at a separation s: the least pair i whose pad with pad i + s - 1 of the other row prevents a wiring (at 0 both pads of pair i), and its
+    /// side (1 RIGHT, 2 LEFT).
     pub pair: usize,
     pub side: u8,
     /// How many differences were read.
@@ -123,18 +135,19 @@ pub fn fit(a: &[i32], b: &[i32], s: usize, d: i32) -> Numbers {
     unsafe { raw::obrastyn_fit(a.as_ptr(), a.len(), b.as_ptr(), b.len(), s, d) }
 }
 
-/// The least separation at offset `d`, and above 0 the witness at one track fewer: refusals 1 to 5, then 7.
+/// The least separation at offset `d`, and above 0 the witness at one track fewer: refusals 1 to 5, then 7. It is 0 or from 2 up to one more than there
+/// are pairs: what fits at 1 fits at 0.
 pub fn least(a: &[i32], b: &[i32], d: i32) -> Numbers {
     unsafe { raw::obrastyn_least(a.as_ptr(), a.len(), b.as_ptr(), b.len(), d) }
 }
 
-/// The offsets at which a legal wiring exists at separation `s`. Where `s` is the number of pairs or more, all do, and the range is that of the
+/// The offsets at which a legal wiring exists at separation `s`. Where `s` is above the number of pairs, all do, and the range is that of the
 /// accepted ones. Refusals 1 to 6, then NOOFFSET.
 pub fn range(a: &[i32], b: &[i32], s: usize) -> Numbers {
     unsafe { raw::obrastyn_range(a.as_ptr(), a.len(), b.as_ptr(), b.len(), s) }
 }
 
-/// The stretch at fault, as that part of the caller's own row: for a misfit the pads i to i + s of the row in which they
+/// The stretch at fault, as that part of the caller's own row: for a misfit the `s` pads from i on (one at separation 0) of the row in which they
 /// span fewer columns, the bottom row if equal; in every other case an empty part at the bottom row's start.
 pub fn stretch<'r>(a: &'r [i32], b: &'r [i32], s: usize, d: i32) -> &'r [i32] {
     let place = unsafe { raw::obrastyn_stretch(a.as_ptr(), a.len(), b.as_ptr(), b.len(), s, d) };
@@ -142,12 +155,13 @@ pub fn stretch<'r>(a: &'r [i32], b: &'r [i32], s: usize, d: i32) -> &'r [i32] {
 }
 
 /// The best separation, its offsets and the count of differences read: refusals 1 to 5, then BUFFER. The ladder (size and
-/// best separation of each level, from all pairs down to one; at most 24 numbers) is written in front of `ladder`.
+/// best number of each level, from all pairs down to one; at most 24 numbers) is written in front of `ladder`. Its numbers are the halving's own: 0 for a
+/// best separation of 0, else one less than it.
 pub fn best(a: &[i32], b: &[i32], ladder: &mut [usize]) -> Numbers {
     unsafe { raw::obrastyn_best(a.as_ptr(), a.len(), b.as_ptr(), b.len(), ladder.as_mut_ptr(), ladder.len()) }
 }
 
-/// Wire `wire` drawn into the first `s + 1` places of `out`: refusals 1 to 7, WIRE, BUFFER, NOFIT.
+/// Wire `wire` drawn into the first `s + 1` places of `out`, the columns on which it enters tracks 0 to `s`: refusals 1 to 7, WIRE, BUFFER, NOFIT.
 pub fn draw_wire(a: &[i32], b: &[i32], s: usize, d: i32, wire: usize, out: &mut [i32]) -> Numbers {
     unsafe { raw::obrastyn_draw_wire(a.as_ptr(), a.len(), b.as_ptr(), b.len(), s, d, wire, out.as_mut_ptr(), out.len()) }
 }
@@ -157,7 +171,8 @@ pub fn draw_all(a: &[i32], b: &[i32], s: usize, d: i32, out: &mut [i32]) -> Numb
     unsafe { raw::obrastyn_draw_all(a.as_ptr(), a.len(), b.as_ptr(), b.len(), s, d, out.as_mut_ptr(), out.len()) }
 }
 
-/// A table of columns from anyone, checked: refusals 1 to 7, BUFFER, then BADWIRE with the wire and track of its first fault.
+/// A table of columns from anyone, checked: refusals 1 to 7, BUFFER, then BADWIRE with the wire and track of its first fault:
+/// a wrong start, a wrong end, a step aside on track 0, or a run that meets the next wire's.
 pub fn check(a: &[i32], b: &[i32], s: usize, d: i32, table: &[i32]) -> Numbers {
     unsafe { raw::obrastyn_check(a.as_ptr(), a.len(), b.as_ptr(), b.len(), s, d, table.as_ptr(), table.len()) }
 }

@@ -1,11 +1,13 @@
-//! What is accepted, at each limit and one past it (02, #105), and the jumper worked out by hand at the head of crates/jumper/specs/Limits.antt.
+//! What is accepted, at each limit and one past it (02, #105 and #106), and the jumper worked out by hand at the head of crates/jumper/specs/Limits.antt.
 use obrastyn::*;
 
 /// The header's numbers are the wrapper's.
 #[test]
 fn header() {
     let header = include_str!("../../include/obrastyn.h");
-    for (name, limit) in [("FIRST_COLUMN", FIRST_COLUMN), ("LAST_COLUMN", LAST_COLUMN), ("LOWEST_OFFSET", LOWEST_OFFSET), ("HIGHEST_OFFSET", HIGHEST_OFFSET)] {
+    let columns = [("FIRST_COLUMN", FIRST_COLUMN), ("LAST_COLUMN", LAST_COLUMN)];
+    let offsets = [("LOWEST_OFFSET", LOWEST_OFFSET), ("HIGHEST_OFFSET", HIGHEST_OFFSET)];
+    for (name, limit) in columns.into_iter().chain(offsets).chain([("MOST_TRACKS", MOST_TRACKS as i32)]) {
         let written = if limit < 0 { format!("({limit})") } else { format!("{limit}") };
         let line = format!("#define OBRASTYN_{name} {written}");
         assert!(header.lines().any(|found| found == line), "{line}");
@@ -31,15 +33,15 @@ fn columns() {
 fn offsets() {
     let (a, b) = ([-3, 4], [-5, 6]);
     let calls = |d| {
-        let mut table = [0; 6];
-        let one = draw_wire(&a, &b, 2, d, 1, &mut table[..3]).refusal;
-        let all = draw_all(&a, &b, 2, d, &mut table).refusal;
+        let mut table = [0; 8];
+        let one = draw_wire(&a, &b, 3, d, 1, &mut table[..4]).refusal;
+        let all = draw_all(&a, &b, 3, d, &mut table).refusal;
         let order = Order { pairs: 2, separation: LEAST, offset: d, ..Order::default() };
         let mut line = [Line { order, ..Line::default() }];
         let answered = answer(line[0], &a, &b).answer.refusal;
         assert_eq!((answer_line(&mut line, 0, &a, &b), line[0].answer.refusal), (0, answered));
-        assert!(stretch(&a, &b, 2, d).is_empty());
-        [fit(&a, &b, 2, d).refusal, least(&a, &b, d).refusal, one, all, check(&a, &b, 2, d, &table).refusal, answered]
+        assert!(stretch(&a, &b, 3, d).is_empty());
+        [fit(&a, &b, 3, d).refusal, least(&a, &b, d).refusal, one, all, check(&a, &b, 3, d, &table).refusal, answered]
     };
     for d in [LOWEST_OFFSET, HIGHEST_OFFSET] {
         assert_eq!(calls(d), [0; 6]);
@@ -51,34 +53,54 @@ fn offsets() {
     assert_eq!((fit(&a, &b, 2, BEST).refusal, least(&a, &b, BEST).refusal), (7, 7));
 }
 
+/// The greatest separation passes; one more is TRACKS, in every call that takes one, and the stretch at fault is empty then.
+#[test]
+fn separations() {
+    let (a, b) = ([-3, 4], [-5, 6]);
+    let calls = |s: usize| {
+        let mut table = vec![0; 2 * (MOST_TRACKS + 2)];
+        let one = draw_wire(&a, &b, s, 0, 1, &mut table).refusal;
+        let all = draw_all(&a, &b, s, 0, &mut table).refusal;
+        let order = Order { pairs: 2, separation: s.min(LEAST as usize - 1) as u32, offset: BEST, ..Order::default() };
+        let answered = answer(Line { order, ..Line::default() }, &a, &b).answer.refusal;
+        assert!(stretch(&a, &b, s, 0).is_empty());
+        [fit(&a, &b, s, 0).refusal, range(&a, &b, s).refusal, one, all, check(&a, &b, s, 0, &table).refusal, answered]
+    };
+    assert_eq!((calls(MOST_TRACKS - 1), calls(MOST_TRACKS)), ([0; 6], [0; 6]));
+    for s in [MOST_TRACKS + 1, 65_535, usize::MAX] {
+        assert_eq!(calls(s), [6; 6]);
+    }
+}
+
 /// Three pads around a centre pin.
 #[test]
 fn around_a_centre_pin() {
     let (a, b) = ([-1, 0, 1], [-2, 0, 2]);
-    let none = range(&a, &b, 0);
-    assert_eq!((none.refusal, none.place, none.second), (11, 0, 2));
+    for none in [range(&a, &b, 0), range(&a, &b, 1)] {
+        assert_eq!((none.refusal, none.place, none.second), (11, 0, 2));
+    }
     let offsets = |s| (range(&a, &b, s).lowest, range(&a, &b, s).highest);
-    assert_eq!((offsets(1), offsets(2), offsets(3)), ((0, 0), (-1, 1), (LOWEST_OFFSET, HIGHEST_OFFSET)));
+    assert_eq!((offsets(2), offsets(3), offsets(4)), ((0, 0), (-1, 1), (LOWEST_OFFSET, HIGHEST_OFFSET)));
     let mut ladder = [99; 7];
     let found = best(&a, &b, &mut ladder);
-    assert_eq!((found.separation, found.lowest, found.highest, found.count), (1, 0, 0, 8));
+    assert_eq!((found.separation, found.lowest, found.highest, found.count), (2, 0, 0, 8));
     assert_eq!(ladder, [3, 1, 2, 1, 1, 0, 99]);
-    let mut table = [99; 6];
-    assert_eq!(draw_all(&a, &b, 1, 0, &mut table).refusal, 0);
-    assert_eq!(table, [-1, -2, 0, 0, 1, 2]);
+    let mut table = [99; 9];
+    assert_eq!(draw_all(&a, &b, 2, 0, &mut table).refusal, 0);
+    assert_eq!(table, [-1, -1, -2, 0, 0, 0, 1, 1, 2]);
 }
 
-/// The widest jumper at the lowest and at the highest offset, drawn and found legal: its wires reach columns -196,605 and 196,605. Ends of a range below n
-/// need no clipping.
+/// The widest jumper at the lowest and at the highest offset, drawn and found legal: its wires reach columns -196,605 and 196,605. Ends of a range at n
+/// tracks and fewer need no clipping.
 #[test]
 fn farthest_wires() {
     let row = [FIRST_COLUMN, LAST_COLUMN];
-    assert_eq!((range(&row, &row, 1).lowest, range(&row, &row, 1).highest), (LOWEST_OFFSET + 1, HIGHEST_OFFSET - 1));
+    assert_eq!((range(&row, &row, 2).lowest, range(&row, &row, 2).highest), (LOWEST_OFFSET + 1, HIGHEST_OFFSET - 1));
     for (d, first, last) in [(LOWEST_OFFSET, -196_605, -65_535), (HIGHEST_OFFSET, 65_535, 196_605)] {
-        let mut table = [0; 6];
-        assert_eq!(draw_all(&row, &row, 2, d, &mut table).refusal, 0);
-        assert_eq!((table[2], table[5]), (first, last));
-        assert_eq!(check(&row, &row, 2, d, &table).refusal, 0);
+        let mut table = [0; 8];
+        assert_eq!(draw_all(&row, &row, 3, d, &mut table).refusal, 0);
+        assert_eq!((table[3], table[7]), (first, last));
+        assert_eq!(check(&row, &row, 3, d, &table).refusal, 0);
     }
 }
 
