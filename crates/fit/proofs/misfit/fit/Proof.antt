@@ -1,6 +1,8 @@
 use mathlib.Core.Path.{sym, _∙_}
 use mir.Syntax.{w32}
+use mir.Val.{toZ, ofZ}
 use mir.ValLaws.{toZ-ofZ}
+use Rattle.jumper.specs.Asked.{Asked}
 use Rattle.jumper.proofs.Checks.{accepted-asked}
 use Rattle.jumper.proofs.Wired.{asked-rule}
 use Rattle.fit.proofs.Misfits.{fit-refused, fit-found}
@@ -23,7 +25,10 @@ rule-at-requires c κs = search needs
 first-misfit-requires : tie.Need-first-misfit-requires
 first-misfit-requires c κs =
     let t = c .before in
-    rw (c .rule-at .ensures) (asked-rule (accepted-asked _ _ _ _ (sym (t .before .before .check-asked .ensures .answer) ∙ t .enum-told .given .1)))
+    let k = accepted-asked _ _ _ _ (sym (t .before .before .check-asked .ensures .answer) ∙ t .enum-told .given .1) in
+    let s = t .before .before .before .args in
+    let there : Asked (s .a .now) (s .b .now) (c .rule-at .result) (toZ w32 (ofZ w32 (s .d))) = rw (c .rule-at .ensures) (asked-rule k) in
+    there
 
 enum-told-2 : tie.Need-enum-told-2
 enum-told-2 c = search needs

@@ -1,4 +1,8 @@
-use mathlib.Core.Path.{sym, _∙_}
+use mathlib.Core.Path.{_≡_, sym, _∙_}
+use lib.ListN.{length}
+use Rattle.wiring.specs.Fit.{leanOf}
+use Rattle.jumper.specs.Asked.{AcceptedTracks}
+use Rattle.fit.specs.Offsets.{rangeFound}
 use Rattle.jumper.proofs.Checks.{accepted-tracks}
 use Rattle.jumper.proofs.Wired.{tracks-rule}
 use Rattle.fit.proofs.Spans.{range-refused, range-answer}
@@ -21,7 +25,10 @@ rule-at-requires c κs = search needs
 range-found-requires : tie.Need-range-found-requires
 range-found-requires c κs =
     let t = c .before in
-    rw (c .rule-at .ensures) (tracks-rule (accepted-tracks _ _ _ (sym (t .before .before .check-tracks .ensures .answer) ∙ t .enum-told .given .1)))
+    let k = accepted-tracks _ _ _ (sym (t .before .before .check-tracks .ensures .answer) ∙ t .enum-told .given .1) in
+    let s = t .before .before .before .args in
+    let there : AcceptedTracks (s .a .now) (s .b .now) (c .rule-at .result) = rw (c .rule-at .ensures) (tracks-rule k) in
+    there
 
 returns : tie.Need-returns
 returns c =
@@ -31,7 +38,10 @@ returns-2 : tie.Need-returns-2
 returns-2 c =
     let r = c .before in
     let t = r .before in
-    rw (c .range-found .ensures, r .rule-at .ensures) (range-answer _ _ _ (accepted-tracks _ _ _ (sym (t .before .before .check-tracks .ensures .answer) ∙ t .enum-told .given .1)))
+    let s = t .before .before .before .args in
+    let k = accepted-tracks _ _ _ (sym (t .before .before .check-tracks .ensures .answer) ∙ t .enum-told .given .1) in
+    let found : c .range-found .result ≡ rangeFound (length (s .a .now)) (leanOf (s .a .now)) (leanOf (s .b .now)) (r .rule-at .result) = c .range-found .ensures in
+    rw (found, r .rule-at .ensures) (range-answer _ _ _ k)
 
 pub range-at-spec : {M : Type 1} → statement M
 range-at-spec =
