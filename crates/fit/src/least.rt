@@ -68,10 +68,11 @@ fn seek_least(a: &[i32], b: &[i32], d: i32) -> Least
                 if s == 0 {
                     return Least::Straight;
                 }
+                let t = tracks_for(s);
                 if right {
-                    return Least::Tracks(tracks_for(s), i, Side::Right);
+                    return Least::Tracks(t, i, Side::Right);
                 }
-                return Least::Tracks(tracks_for(s), i, Side::Left);
+                return Least::Tracks(t, i, Side::Left);
             }
             Misfit::At(j, side) => {
                 s += 1;

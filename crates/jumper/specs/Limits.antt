@@ -2,12 +2,12 @@
 -- names in the header for C and in the wrapper for Rust too. negsuc k is -(k + 1).
 --
 -- Worked, around a centre pin: C = rows -1,0,1 and -2,0,2. Its x are -1,-1,-1 and its y -2,-1,0.
---   at 0  the differences x_i - y_i are 1, 0, -1: no offset; pair 0 sets the low end, pair 2 the high end
---   at 1  the low ends x_i - y_(i+1) are 0, -1, the high ends x_(i+1) - y_i are 1, 0: offset 0 alone. So C's best is 1, after 4 differences at two pairs
---         and 4 at three. Drawn there: -1,-2 / 0,0 / 1,2
---   at 2  x_0 - y_2 is -1 and x_2 - y_0 is 1: offsets -1 to 1. So at the lowest offset C needs 3, and top pad 2 is too far left for bottom pad 0 at 2
---   at 3  as many tracks as pairs: every offset, -131,070 to 131,070
--- L = one pair, on column -65,535 in both rows. Drawn at separation 1 and the lowest offset: column -65,535, then -196,605.
+--   at separations 0 and 1, the rule's number 0: the differences x_i - y_i are 1, 0, -1: no offset; pair 0 sets the low end, pair 2 the high end
+--   at 2, number 1: the low ends x_i - y_(i+1) are 0, -1, the high ends x_(i+1) - y_i are 1, 0: offset 0 alone. So C's best is 2, after 4 differences at
+--         two pairs and 4 at three. Drawn there: -1,-1,-2 / 0,0,0 / 1,1,2
+--   at 3, number 2: x_0 - y_2 is -1 and x_2 - y_0 is 1: offsets -1 to 1. So at the lowest offset C needs 4, and top pad 2 is too far left for bottom pad 0 at 3
+--   at 4, one track more than pairs: every offset, -131,070 to 131,070
+-- L = one pair, on column -65,535 in both rows. Drawn at separation 2 and the lowest offset: column -65,535 twice, then -196,605.
 use Prim.Native.Nat.{ℕ}
 use lib.IntN.{ℤ, pos, negsuc}
 use lib.Signed.{_≤ℤ_}

@@ -95,20 +95,14 @@ module _ (p : List ℤ) (at : ℕ) (out₀ out : List ℤ) (here : length p ≡ 
       let z : drop (length out - at) (drop at out) ≡ [] = rw (g, put-same) (drop-of-length-le (drop at out₀) {i = length out₀ - at} (omega (arith, length-drop at out₀))) in
       rw (z, e, lent, f, append-nil, drop-drop k at out₀, append-assoc)
 
--- a wire of which m columns were drawn, and its next k into the part after them
-pub columns-on : (e : ℕ → ℤ) (m k : ℕ) (out₀ out ys : List ℤ) → m ≤ length out₀ → out ≡ columns e m ++ drop m out₀
-    → ys ≡ columns (λ t. e (m + t)) k ++ drop k (take (length out - m) (drop m out)) → put m out ys ≡ columns e (m + k) ++ drop (m + k) out₀
-columns-on e m k out₀ out ys room was g =
-    put-next (columns e m) m out₀ out (columns-length e m) room was (columns (λ t. e (m + t)) k) k ys g
-    ∙ ap (λ (x : List ℤ). x ++ drop (m + k) out₀) (sym (columns-more e m k))
-
--- the same where the rest stands on column c
+-- a wire of which m columns were drawn, and the rest, up to k, on column c
 pub straight-on : (e : ℕ → ℤ) (c : ℤ) (m k : ℕ) (out₀ out ys : List ℤ) → m ≤ k → k ≤ length out₀ → ((t : ℕ) → m ≤ t → t < k → e t ≡ c) → out ≡ columns e m ++ drop m out₀
     → ys ≡ columns (λ t. c) (k - m) ++ drop (k - m) (take (length out - m) (drop m out)) → put m out ys ≡ columns e k ++ drop k out₀
 straight-on e c m k out₀ out ys le room free was g =
     let w : m + (k - m) ≡ k = omega arith in
-    let f : columns (λ t. c) (k - m) ≡ columns (λ t. e (m + t)) (k - m) = columns-same (λ t. c) (λ t. e (m + t)) (k - m) (λ t h. sym (free (m + t) (omega arith) (omega arith))) in
-    rw w at (columns-on e m (k - m) out₀ out ys (omega arith) was (rw f at g))
+    let f : columns (λ t. e (m + t)) (k - m) ≡ columns (λ t. c) (k - m) = columns-same (λ t. e (m + t)) (λ t. c) (k - m) (λ t h. free (m + t) (omega arith) (omega arith)) in
+    let h : columns e k ≡ columns e m ++ columns (λ t. c) (k - m) = ap (columns e) (sym w) ∙ columns-more e m (k - m) ∙ rw f in
+    put-next (columns e m) m out₀ out (columns-length e m) (omega arith) was (columns (λ t. c) (k - m)) (k - m) ys g ∙ rw (w, h)
 
 -- the first i of n wires stand in what was out₀, up to place `at`
 pub record Drawn (e : ℕ → ℕ → ℤ) (s n : ℕ) (out₀ : List ℤ) (i at : ℕ) (out : List ℤ) : Type 0 where

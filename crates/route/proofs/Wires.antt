@@ -1,11 +1,12 @@
 -- The columns of one wire: 01's, where a pad holds it and where none does, and ours, one straight step below.
 use mathlib.Core.Path.{_≡_, refl, sym, ap, _∙_}
 use mathlib.Core.Bool.{true, false}
-use mathlib.Core.List.{List, _++_}
+use mathlib.Core.List.{List, [], _∷_, _++_}
 use Prim.Native.Nat.{ℕ, zero, suc, _+_, _-_, _≤_, _<_}
 use native.Mathlib.Omega.{arith}
 use borrow.Author.Tests.{lt-ltb, le-ltb}
-use lib.ListN.{length, take, drop, set}
+use lib.ListN.{length, getD, take, drop, set}
+use lib.Seq.{drop-cons}
 use lib.IntN.{ℤ, pos, _+ℤ_, _-ℤ_}
 use lib.Signed.{_≤ℤ_, ltZ}
 use Rattle.whole.specs.Pick.{largerOf, smallerOf}
@@ -16,7 +17,7 @@ use Rattle.wiring.specs.Drawing.{rightward, leftward, entry, columnAt}
 use Rattle.wiring.proofs.Serves.{rule-zero, rule-next}
 use Rattle.route.specs.Table.{columns}
 use Rattle.route.specs.Draw.{drawnOf, wireDrawn}
-use Rattle.route.proofs.Places.{columns-length, columns-same, begun-next, put, put-same, lent-length, columns-on}
+use Rattle.route.proofs.Places.{columns-length, columns-same, columns-more, put, put-same, lent-length, put-next}
 
 module _ (n : ℕ) (a : ℕ → ℤ) (c : ℤ) (i t : ℕ) where
   pub rightward-held : i + t < n → rightward n a c i t ≡ smallerOf c (a (i + t) -ℤ pos t)
@@ -69,25 +70,30 @@ pub column-first : (n : ℕ) (a : ℕ → ℤ) (c : ℤ) (i : ℕ) → columnAt 
 unfolding entry
 column-first n a c i = rw rule-zero
 
--- WIRE i IN A BUFFER: pad i's column in its first place, and 01's first s columns in the part after it
+-- WIRE i IN A BUFFER: 01's first s columns in the part after its first place, and then pad i's column there
 module _ (a b : List ℤ) (s : ℕ) (d : ℤ) (i : ℕ) (out : List ℤ) (room : s < length out) where
   abbrev e : ℕ → ℤ
   e = drawnOf a b d i
 
-  pub wire-begun : (x : ℤ) → x ≡ pad a i → set out 0 x ≡ columns e 1 ++ drop 1 out
+  abbrev front : List ℤ
+  front = getD out 0 (pos 0) ∷ []
+
+  was : out ≡ front ++ drop 1 out
+  was = drop-cons out 0 (pos 0) (omega arith)
+
+  pub wire-room : s ≤ length (take (length out - 1) (drop 1 out))
+  wire-room = omega (arith, lent-length front 1 out out refl (omega arith) was)
+
+  pub wire-drawn : (c x : ℤ) (ys : List ℤ) → c ≡ topPad b d i → x ≡ pad a i → ys ≡ columns (entry (length a) (pad a) c i) s ++ drop s (take (length out - 1) (drop 1 out))
+      → set (put 1 out ys) 0 x ≡ wireDrawn a b s d i out
   unfolding columns
-  wire-begun x first = begun-next e out out 0 x (omega arith) (first ∙ sym (column-first (length a) (pad a) (topPad b d i) i)) refl
-
-  pub wire-room : (out′ : List ℤ) → out′ ≡ columns e 1 ++ drop 1 out → s ≤ length (take (length out′ - 1) (drop 1 out′))
-  wire-room out′ begun = omega (arith, lent-length (columns e 1) 1 out out′ (columns-length e 1) (omega arith) begun)
-
-  pub wire-same-length : (out′ : List ℤ) → out′ ≡ wireDrawn a b s d i out → length out′ ≡ length out
-  wire-same-length out′ drawn = put-same (columns e (s + 1)) (s + 1) out out′ (columns-length e (s + 1)) (omega arith) drawn
-
-  pub wire-drawn : (c : ℤ) (out′ ys : List ℤ) → c ≡ topPad b d i → out′ ≡ columns e 1 ++ drop 1 out
-      → ys ≡ columns (entry (length a) (pad a) c i) s ++ drop s (take (length out′ - 1) (drop 1 out′)) → put 1 out′ ys ≡ wireDrawn a b s d i out
-  wire-drawn c out′ ys top begun g =
+  wire-drawn c x ys top first g =
       let E : ℕ → ℤ = entry (length a) (pad a) c i in
       let same : (t : ℕ) → t < s → E t ≡ e (1 + t) = λ t l. ap (λ (z : ℤ). entry (length a) (pad a) z i t) top ∙ sym (column-next (length a) (pad a) (topPad b d i) i t) in
       let w : 1 + s ≡ s + 1 = omega arith in
-      rw w at (columns-on e 1 s out out′ ys (omega arith) begun (rw (columns-same E (λ t. e (1 + t)) s same) at g))
+      let put-there = put-next front 1 out out refl (omega arith) was (columns E s) s ys g in
+      let all : x ∷ columns E s ≡ columns e (1 + s) = rw (first ∙ sym (column-first (length a) (pad a) (topPad b d i) i), columns-same E (λ t. e (1 + t)) s same) (sym (columns-more e 1 s)) in
+      ap (λ (z : List ℤ). set z 0 x) put-there ∙ ap (λ (z : List ℤ). z ++ drop (1 + s) out) all ∙ rw w
+
+  pub wire-same-length : (out′ : List ℤ) → out′ ≡ wireDrawn a b s d i out → length out′ ≡ length out
+  wire-same-length out′ drawn = put-same (columns e (s + 1)) (s + 1) out out′ (columns-length e (s + 1)) (omega arith) drawn

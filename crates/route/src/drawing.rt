@@ -162,8 +162,8 @@ fn draw_columns(a: &[i32], b: &[i32], s: usize, d: i32, i: usize, out: &mut [i32
     ensures { λ r. ⌜ now (out .exit) ≡ wireDrawn (now (a .entry)) (now (b .entry)) s d i (now (out .entry)) ⌝ }
 {
     let c = top_pad(b, i, d);
-    out[0] = a[i];
     draw_above(a, c, i, s, &mut out[1..]);
+    out[0] = a[i];
 }
 
 // Wire after wire into the first n(s + 1) places. The place of the next wire is kept, so that no product is taken.

@@ -23,10 +23,16 @@ fn same(agree: bool) {
     }
 }
 
+/// By how many tracks fewer the earlier calls are asked about a fit or a range (`rust/before` says what for).
+fn fewer() -> usize {
+    std::env::args().nth(1).map_or(0, |number| number.parse().expect("a number of tracks"))
+}
+
 fn rule(n: usize, tight: bool) {
     let kind = kind(tight);
     let (a, b) = rows(n, tight, 7 + n as u64);
     let s = obrastyn::least(&a, &b, 0).separation;
+    let earlier = s - fewer();
     let (x, y) = (&a[..], &b[..]);
     let (p, q) = (a.as_ptr(), b.as_ptr());
     let (mut now, mut then) = ([0usize; 24], [0usize; 24]);
@@ -34,13 +40,13 @@ fn rule(n: usize, tight: bool) {
     let (f, g) = (&faulty[..], faulty.as_ptr());
     row(&format!("rows, {n} pairs, {kind}"), race(|| obrastyn::rows(black_box(x), black_box(y)), || unsafe { before_obrastyn_rows(black_box(p), n, black_box(q), n) }));
     row(&format!("rows, {n} pairs, {kind}, last at fault"), race(|| obrastyn::rows(black_box(x), black_box(f)), || unsafe { before_obrastyn_rows(black_box(p), n, black_box(g), n) }));
-    row(&format!("fit, {n} pairs, {kind}"), race(|| obrastyn::fit(black_box(x), black_box(y), s, 0), || unsafe { before_obrastyn_fit(black_box(p), n, black_box(q), n, s, 0) }));
+    row(&format!("fit, {n} pairs, {kind}"), race(|| obrastyn::fit(black_box(x), black_box(y), s, 0), || unsafe { before_obrastyn_fit(black_box(p), n, black_box(q), n, earlier, 0) }));
     row(&format!("least, {n} pairs, {kind}"), race(|| obrastyn::least(black_box(x), black_box(y), 0), || unsafe { before_obrastyn_least(black_box(p), n, black_box(q), n, 0) }));
-    row(&format!("range, {n} pairs, {kind}"), race(|| obrastyn::range(black_box(x), black_box(y), s), || unsafe { before_obrastyn_range(black_box(p), n, black_box(q), n, s) }));
+    row(&format!("range, {n} pairs, {kind}"), race(|| obrastyn::range(black_box(x), black_box(y), s), || unsafe { before_obrastyn_range(black_box(p), n, black_box(q), n, earlier) }));
     row(&format!("best, {n} pairs, {kind}"), race(|| obrastyn::best(black_box(x), black_box(y), &mut now), || unsafe { before_obrastyn_best(black_box(p), n, black_box(q), n, then.as_mut_ptr(), 24) }));
     same(now == then);
     same(obrastyn::least(x, y, 0) == unsafe { before_obrastyn_least(p, n, q, n, 0) });
-    same(obrastyn::range(x, y, s) == unsafe { before_obrastyn_range(p, n, q, n, s) });
+    same(obrastyn::range(x, y, s) == unsafe { before_obrastyn_range(p, n, q, n, earlier) });
 }
 
 fn route(n: usize, s: usize) {

@@ -1,12 +1,18 @@
-use mathlib.Core.Path.{sym, _∙_}
-use Prim.Native.Nat.{_-_}
+use mathlib.Core.Path.{sym, ap, subst, _∙_}
+use mathlib.Core.Bool.{Bool}
+use mathlib.Core.List.{List}
+use Prim.Native.Nat.{ℕ, _-_}
 use native.Mathlib.Nat.{pos-of-ne-zero}
 use native.Mathlib.Omega.{arith}
 use lib.ListN.{length}
+use lib.IntN.{ℤ}
 use mir.Syntax.{w32}
 use mir.Val.{toZ}
 use mir.ValLaws.{toZ-ofZ}
-use Rattle.fit.proofs.Leasts.{Seeking, seek-start, seek-asked, seek-next, seek-straight, seek-tracks}
+use Rattle.jumper.specs.declared.refusal.Side.{Side}
+use Rattle.fit.specs.Least.{LeastAnswer}
+use Rattle.fit.specs.declared.least.Least.the-variants.{Tracks}
+use Rattle.fit.proofs.Leasts.{sideOf, Seeking, seek-start, seek-asked, seek-next, seek-straight, seek-tracks}
 use borrow.Author.Needs.{needs}
 use Rattle.fit.proofs.least.seek_least.Statement.{statement}
 use Rattle.fit.proofs.least.seek_least.Tie as tie
@@ -16,6 +22,25 @@ Inv-loop a b d s₀ i₀ right₀ s i right = Seeking a b (toZ w32 d) s i right
 
 abbrev μ-loop : tie.MeasureT-loop
 μ-loop a b d s₀ i₀ right₀ s i right = length a - s
+
+-- where no misfit is left: the call's arguments, and where the loop stands
+abbrev Found : Type 0
+Found = tie.After-tracks-for Inv-loop μ-loop
+
+abbrev bottom : Found → List ℤ
+bottom c = c .before .before .before .before .before .before .args .a .now
+
+abbrev top : Found → List ℤ
+top c = c .before .before .before .before .before .before .args .b .now
+
+abbrev offset : Found → ℤ
+offset c = c .before .before .before .before .before .before .args .d
+
+abbrev pair : Found → ℕ
+pair c = c .before .before .before .before .before .loop .i
+
+abbrev isRight : Found → Bool
+isRight c = c .before .before .before .before .before .loop .right
 
 loop-holds : tie.Need-loop-holds Inv-loop μ-loop
 loop-holds c = seek-start _ _ _
@@ -42,30 +67,26 @@ returns c =
 tracks-for-requires : tie.Need-tracks-for-requires Inv-loop μ-loop
 tracks-for-requires c κs = search needs
 
-returns-2 : tie.Need-returns-2 Inv-loop μ-loop
-returns-2 c =
-    let f = c .before .before .before in
+-- what was sought and found, on either side
+abbrev Answer : Found → Side → Type 0
+Answer c side = LeastAnswer (bottom c) (top c) (offset c) (Tracks (c .tracks-for .result) (pair c) side)
+
+found : (c : Found) → Answer c (sideOf (isRight c))
+found c =
+    let f = c .before .before in
     let m = f .before .before in
     let k = m .before in
     let s = k .before in
     let e = toZ-ofZ w32 (s .args .d) (s .fits .d) in
     let v = rw e at (k .loop .inv) in
-    let found = sym (rw e at (m .misfit-from .ensures)) ∙ f .enum-told .given .1 in
-    rw (c .before .if2 .taken) at (seek-tracks (s .args .a .now) (s .args .b .now) (s .args .d) (s .pre) _ _ _ v _ (c .tracks-for .ensures) found (pos-of-ne-zero (c .before .before .if1 .left)))
+    let none = sym (rw e at (m .misfit-from .ensures)) ∙ f .enum-told .given .1 in
+    seek-tracks (s .args .a .now) (s .args .b .now) (s .args .d) (s .pre) _ _ _ v (c .tracks-for .result) (c .tracks-for .ensures) none (pos-of-ne-zero (c .before .if1 .left))
 
-tracks-for-requires-2 : tie.Need-tracks-for-requires-2 Inv-loop μ-loop
-tracks-for-requires-2 c κs = search needs
+returns-2 : tie.Need-returns-2 Inv-loop μ-loop
+returns-2 c = subst (Answer (c .before)) (ap sideOf (c .if2 .taken)) (found (c .before))
 
 returns-3 : tie.Need-returns-3 Inv-loop μ-loop
-returns-3 c =
-    let f = c .before .before .before in
-    let m = f .before .before in
-    let k = m .before in
-    let s = k .before in
-    let e = toZ-ofZ w32 (s .args .d) (s .fits .d) in
-    let v = rw e at (k .loop .inv) in
-    let found = sym (rw e at (m .misfit-from .ensures)) ∙ f .enum-told .given .1 in
-    rw (c .before .if2 .left) at (seek-tracks (s .args .a .now) (s .args .b .now) (s .args .d) (s .pre) _ _ _ v _ (c .tracks-for2 .ensures) found (pos-of-ne-zero (c .before .before .if1 .left)))
+returns-3 c = subst (Answer (c .before)) (ap sideOf (c .if2 .left)) (found (c .before))
 
 enum-known-j : tie.Need-enum-known-j Inv-loop μ-loop
 enum-known-j c = search needs
@@ -114,7 +135,6 @@ seek-least-spec =
     returns
     tracks-for-requires
     returns-2
-    tracks-for-requires-2
     returns-3
     enum-known-j
     add-s

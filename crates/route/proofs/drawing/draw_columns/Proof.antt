@@ -1,12 +1,10 @@
-use mathlib.Core.Path.{_≡_}
 use native.Mathlib.Omega.{arith}
 use borrow.Author.Needs.{needs, sfits-of}
-use lib.ListN.{length, length-set}
 use mir.Syntax.{w32}
 use mir.ValLaws.{toZ-ofZ}
 use Rattle.whole.proofs.Machine.{back}
 use Rattle.wiring.specs.Wiring.{pad}
-use Rattle.route.proofs.Wires.{wire-begun, wire-room, wire-same-length, wire-drawn}
+use Rattle.route.proofs.Wires.{wire-room, wire-drawn, wire-same-length}
 use Rattle.route.proofs.drawing.draw_columns.Statement.{statement}
 use Rattle.route.proofs.drawing.draw_columns.Tie as tie
 
@@ -14,6 +12,22 @@ top-pad-requires : tie.Need-top-pad-requires
 top-pad-requires c κs =
     let s = c .args in
     (c .pre .0 .rows .top, rw (toZ-ofZ w32 (s .d) (c .fits .d)) (c .pre .0 .offset), omega (arith, c .pre .0 .rows .equal))
+
+sub-draw-above : tie.Need-sub-draw-above
+sub-draw-above c = search needs
+
+part-draw-above-start : tie.Need-part-draw-above-start
+part-draw-above-start c = search needs
+
+part-draw-above-end : tie.Need-part-draw-above-end
+part-draw-above-end c = search needs
+
+draw-above-requires : tie.Need-draw-above-requires
+draw-above-requires c κs =
+    let at-start = c .before .before in
+    let s = at-start .args in
+    let rows = at-start .pre .0 .rows in
+    (rows .bottom, rows .few, at-start .pre .1, wire-room (s .a .now) (s .b .now) (s .s) (s .d) (s .i) (s .out .now) (at-start .pre .2))
 
 mul-out : tie.Need-mul-out
 mul-out c = search needs
@@ -24,37 +38,17 @@ shared-slice-copy-out-out c = search needs
 slice-set-from-out : tie.Need-slice-set-from-out
 slice-set-from-out c = search needs
 
-sub-draw-above : tie.Need-sub-draw-above
-sub-draw-above c = simp length-set (omega arith)
-
-part-draw-above-start : tie.Need-part-draw-above-start
-part-draw-above-start c = simp length-set (omega arith)
-
-part-draw-above-end : tie.Need-part-draw-above-end
-part-draw-above-end c = search needs
-
-draw-above-requires : tie.Need-draw-above-requires
-draw-above-requires c κs =
-    let at-out = c .before in
-    let at-start = at-out .before .before in
-    let s = at-start .args in
-    let rows = at-start .pre .0 .rows in
-    let first = back (pad (s .a .now) (s .i)) (at-out .out .given) in
-    let begun = wire-begun (s .a .now) (s .b .now) (s .s) (s .d) (s .i) (s .out .now) (at-start .pre .2) _ first in
-    (rows .bottom, rows .few, at-start .pre .1, wire-room (s .a .now) (s .b .now) (s .s) (s .d) (s .i) (s .out .now) (at-start .pre .2) _ begun)
-
 returns : tie.Need-returns
 returns c =
-    let at-out = c .before .before .before in
-    let at-top-pad = at-out .before in
+    let at-draw-above = c .before .before in
+    let at-top-pad = at-draw-above .before .before in
     let at-start = at-top-pad .before in
     let s = at-start .args in
     let t = at-top-pad .top-pad in
     let x = toZ-ofZ w32 (t .result) (sfits-of (t .ok)) in
     let top = rw (toZ-ofZ w32 (s .d) (at-start .fits .d)) at (t .ensures) in
-    let first = back (pad (s .a .now) (s .i)) (at-out .out .given) in
-    let begun = wire-begun (s .a .now) (s .b .now) (s .s) (s .d) (s .i) (s .out .now) (at-start .pre .2) _ first in
-    wire-drawn (s .a .now) (s .b .now) (s .s) (s .d) (s .i) (s .out .now) (at-start .pre .2) (t .result) _ _ top begun (rw x at (c .before .draw-above .ensures))
+    let first = back (pad (s .a .now) (s .i)) (c .out2 .given) in
+    wire-drawn (s .a .now) (s .b .now) (s .s) (s .d) (s .i) (s .out .now) (at-start .pre .2) (t .result) _ _ top first (rw x at (at-draw-above .draw-above .ensures))
 
 same-length : tie.Need-same-length
 same-length c =
@@ -67,12 +61,12 @@ draw-columns-spec =
     tie.close
     (tie.spec
     top-pad-requires
-    mul-out
-    shared-slice-copy-out-out
-    slice-set-from-out
     sub-draw-above
     part-draw-above-start
     part-draw-above-end
     draw-above-requires
+    mul-out
+    shared-slice-copy-out-out
+    slice-set-from-out
     same-length
     returns)
