@@ -32,7 +32,8 @@ typedef struct {
 
 /* Refusals 1 to 5. */
 obrastyn_numbers obrastyn_rows(const int32_t *a, size_t an, const int32_t *b, size_t bn);
-/* Does separation s fit at offset d? If not, pads pair and pair + s - 1 prevent it (at separation 0 both pads of the pair). Refusals 1 to 7, then 10. */
+/* Does separation s fit at offset d? If not, side 1 (RIGHT) says that top pad `pair` is too far right for bottom pad `pair + s - 1`, side 2 (LEFT) that top pad
+   `pair + s - 1` is too far left for bottom pad `pair`; at s = 0 both are pads `pair`. Refusals 1 to 7, then 10. */
 obrastyn_numbers obrastyn_fit(const int32_t *a, size_t an, const int32_t *b, size_t bn, size_t s, int32_t d);
 /* The least separation at offset d, at most one more than there are pairs; above 0 the witness at one track fewer. Refusals 1 to 5, then 7. */
 obrastyn_numbers obrastyn_least(const int32_t *a, size_t an, const int32_t *b, size_t bn, int32_t d);
@@ -41,7 +42,7 @@ obrastyn_numbers obrastyn_range(const int32_t *a, size_t an, const int32_t *b, s
 /* The best separation; the ladder goes to the front of the buffer (24 numbers are always enough). The ladder's numbers are the halving's own: 0 for a best
    separation of 0, else one less than it. Refusals 1 to 5, then 9. */
 obrastyn_numbers obrastyn_best(const int32_t *a, size_t an, const int32_t *b, size_t bn, size_t *ladder, size_t room);
-/* One wire into s + 1 places: the column on which it enters each track; the first two are its bottom pad's. Refusals 1 to 10. */
+/* One wire into s + 1 places: the column on which it enters each track; from s = 1 on the first two are its bottom pad's. Refusals 1 to 10. */
 obrastyn_numbers obrastyn_draw_wire(const int32_t *a, size_t an, const int32_t *b, size_t bn, size_t s, int32_t d, size_t wire,
                                     int32_t *out, size_t room);
 /* All wires, wire after wire, into n(s + 1) places. Refusals 1 to 7, 9 and 10. */

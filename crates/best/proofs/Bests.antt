@@ -19,7 +19,7 @@ use Rattle.jumper.proofs.Spans.{range-exactly, none-fits, half-fits}
 use Rattle.best.specs.Halving.{emptyAt, readAt, Taken, fromHalf, Halving, onePair, levelOver, halving, levels, readBetween, countUnder, ladderCount}
 use Rattle.best.proofs.Levels.{one-pair, more-pairs, one-level, more-levels, by-halving, Past, cases}
 
--- what a best separation of m pairs is
+-- what a best number of m pairs is
 pub record BestOf (m : ℕ) (x y : ℕ → ℤ) (b : ℕ) : Type 0 where
   pub within : 2 * b ≤ m
   pub some : (d : ℤ) × Fits m b x y d

@@ -39,7 +39,8 @@ fromHalf m x y h c =
     (cond (emptyAt m x y (2 * h - 1)) (fromEven m x y h (c + readAt m (2 * h - 1))) (taken (2 * h - 1) (c + readAt m (2 * h - 1))))
     (fromEven m x y h c)
 
--- what the halving of some pairs comes to. "The ladder .. holds for each level from n down to 1 two numbers: its size and its best separation"
+-- what the halving of some pairs comes to. "The ladder .. holds for each level from n down to 1 two numbers: its size and its best separation",
+-- as a number of the rule
 pub record Halving : Type 0 where
   pub best : ℕ
   pub count : ℕ

@@ -1,14 +1,16 @@
--- The place of a stretch names the stretch.
-use mathlib.Core.Path.{_≡_, refl}
+-- The place of a stretch names the stretch, and how many pads it has.
+use mathlib.Core.Path.{_≡_, refl, ap, _∙_}
 use mathlib.Core.Bool.{Bool, true, false, cond}
 use mathlib.Core.List.{List}
-use Prim.Native.Nat.{ℕ, _+_}
+use Prim.Native.Nat.{ℕ, _+_, _<_}
 use lib.Dec.{eqb}
 use lib.ListN.{take, drop}
 use lib.IntN.{ℤ}
 use lib.Signed.{leZ}
 use Rattle.wiring.specs.Tracks.{ruleAt}
+use Rattle.wiring.proofs.Serves.{rule-zero, rule-above}
 use Rattle.jumper.specs.Asked.{checkAsked}
+use Rattle.jumper.specs.declared.refusal.Side.{Side}
 use Rattle.jumper.specs.declared.rows.Checked.{Checked}
 use Rattle.jumper.specs.declared.rows.Checked.the-variants.{Accepted, Refused}
 use Rattle.fit.specs.Misfit.{misfitOf}
@@ -28,3 +30,10 @@ by-cases Accepted (At i k) a b s = go (leZ (span a i s) (span b i s))
 
 pub named : (a b : List ℤ) (s : ℕ) (d : ℤ) (r : Place) → r ≡ placeOf a b s d → StretchPlace a b s d r
 named a b s d r e = record { answer = e; names = rw e (by-cases (checkAsked a b s d) (misfitOf a b (ruleAt s) d) a b (ruleAt s)) }
+
+-- the stretch "from the one [pad of the witness] to the other" (02, #106): as many pads as tracks, and one at separation 0
+pub stretch-pads : (a b : List ℤ) (s : ℕ) (d : ℤ) (i : ℕ) (k : Side) → checkAsked a b s d ≡ Accepted → misfitOf a b (ruleAt s) d ≡ At i k
+    → (s ≡ 0 → placeOf a b s d .pads ≡ 1) × (0 < s → placeOf a b s d .pads ≡ s)
+stretch-pads a b s d i k asked misfit =
+    let pads : placeOf a b s d .pads ≡ ruleAt s + 1 = rw (asked, misfit) in
+    ((λ z. pads ∙ ap (λ (t : ℕ). ruleAt t + 1) z ∙ ap (λ (r : ℕ). r + 1) rule-zero), (λ h. pads ∙ rule-above s h))

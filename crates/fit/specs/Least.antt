@@ -44,8 +44,8 @@ withWitness (suc s) (At i k) = Tracks (tracksFor (suc s)) i k
 abbrev pub leastAnswer : (a b : List ℤ) (d : ℤ) → Least
 leastAnswer a b d = unlessRefused (checkOffset a b d) NoLeast (withWitness (leastOf (leanOf a) (leanOf b) d (length a)) (misfitOf a b (leastOf (leanOf a) (leanOf b) d (length a) - 1) d))
 
--- What `least_at` promises: the least separation that fits, 0 or at most one more than there are pairs; above 0 "the answer also shows the witness" at one
--- track fewer.
+-- What `least_at` promises: the least separation that fits, at most one more than there are pairs; above 0 "the answer also shows the witness" at one
+-- track fewer. That it is never 1 is the law `least-not-one`.
 pub record LeastAnswer (a b : List ℤ) (d : ℤ) (r : Least) : Type 0 where
   pub answer : r ≡ leastAnswer a b d
   pub accepts : (leastNumbers r .refusal ≡ 0) ↔ AcceptedShift a b d

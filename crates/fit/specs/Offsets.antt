@@ -37,7 +37,7 @@ highGap a b s i = pad a (i + s) -ℤ pad b i
 abbrev pub gapsOf : (a b : List ℤ) (s : ℕ) → OffsetRange
 gapsOf a b s = record { low = largest (lowGap a b s) (length a - s - 1); high = smallest (highGap a b s) (length a - s - 1) }
 
--- "For s >= n the range given is that of the accepted offsets": s is the rule's number here, so "every offset fits only above n" tracks (02, #106)
+-- "For s >= n the range given is that of the accepted offsets." s is the rule's number here: by 02, #106, that is at separations above n
 abbrev pub rangeFound : (n : ℕ) (x y : ℕ → ℤ) (s : ℕ) → Offsets
 rangeFound n x y s =
     cond (ltb s n)

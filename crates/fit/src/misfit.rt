@@ -1,4 +1,4 @@
-// The witness of a misfit, and the question whether a separation and an offset fit.
+// The witness of a misfit, and the question whether a separation and an offset fit. In all but `fit` itself s is the rule's number.
 ghost use mathlib.Core.Path.{_≡_};
 ghost use Prim.Native.Nat.{_+_, _-_, _≤_, _<_};
 ghost use lib.ListN.{length};

@@ -1,4 +1,4 @@
-// The offset range at a separation.
+// The offset range at a separation. In all but `range_at` itself s is the rule's number.
 ghost use mathlib.Core.Path.{_≡_};
 ghost use Prim.Native.Nat.{_+_, _-_, _<_};
 ghost use lib.ListN.{length};

@@ -12,7 +12,7 @@ use jumper::asked::check_asked;
 use jumper::rows::Checked;
 use jumper::serves::rule_at;
 
-// How many columns pads i to i + s of a row span.
+// How many columns pads i to i + s of a row span. Here and below s is the rule's number, but in the two calls themselves.
 fn span_of(a: &[i32], i: usize, s: usize) -> i32
     requires { ⌜ AcceptedRow (now a) × (i + s < length (now a)) ⌝ }
     ensures { λ r. ⌜ r ≡ span (now (a .entry)) i s ⌝ }

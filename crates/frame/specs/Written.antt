@@ -1,6 +1,6 @@
 -- How frames are written (01, "Sheets"). What is sent to us is written by `written`; the answers are `answerLine` and `moveLine`.
 --
--- Worked: least separation 2 at offset 0 with the witness 0, RIGHT, on line 0, is 20000000020000000000000000000001DD.
+-- Worked: least separation 3 at offset 0 with the witness 0, RIGHT, on line 0, is 20000000030000000000000000000001DC.
 use mathlib.Core.List.{List, [], _∷_, _++_}
 use Prim.Native.Nat.{ℕ, _/_, _%_}
 use lib.ListN.{length}

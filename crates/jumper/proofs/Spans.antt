@@ -1,4 +1,4 @@
--- The range at a separation holds exactly the offsets that fit there; so it is empty exactly when none fits.
+-- The range at a number holds exactly the offsets that meet the rule there; so it is empty exactly when none does.
 use mathlib.Core.Path.{_≡_}
 use mathlib.Core.Bool.{true}
 use mathlib.Core.Logic.{_↔_}
@@ -28,7 +28,7 @@ module _ (n : ℕ) (x y : ℕ → ℤ) (s : ℕ) (inside : s < n) where
       let e = empty-exactly (rangeOf n x y s) in
       ((λ t d f. e .0 t d (range-exactly d .1 f)), (λ z. e .1 (λ d w. z d (range-exactly d .0 w))))
 
--- "the best separation is at most half the number of pairs" (003, lemma 2): at s with n <= 2s + 1 any low end is at most any high end
+-- the best number is "at most half the number of pairs" (003, lemma 2): at s with n <= 2s + 1 any low end is at most any high end
 pub half-fits : (n : ℕ) (x y : ℕ → ℤ) (s : ℕ) → Steady n x → Steady n y → s < n → n ≤ 2 * s + 1 → rangeOf n x y s .low ≤ℤ rangeOf n x y s .high
 half-fits n x y s sx sy inside h =
     let i = lowestAt n x y s in

@@ -21,7 +21,7 @@ use Rattle.jumper.specs.Asked.{AcceptedTracks, Asked}
 pub wiring-exactly : {a b : List ℤ} → AcceptedRows a b → (s : ℕ) (d : ℤ) → HasWiring a b s d ↔ Fits (length a) (ruleAt s) (leanOf a) (leanOf b) d
 wiring-exactly {a} {b} r s d = fit-exactly (length a) s (pad a) (pad b) d (r .bottom .rising) (rw (r .equal) (r .top .rising))
 
--- the first track wins nothing, and every whole-number offset fits exactly above n (02, #106)
+-- the first track wins nothing, and all whole-number offsets fit exactly at separations above n (02, #106)
 pub wired-first : {a b : List ℤ} → AcceptedRows a b → (d : ℤ) → HasWiring a b 1 d → HasWiring a b 0 d
 wired-first {a} {b} r d = first-track (length a) (pad a) (pad b) d (r .bottom .rising) (rw (r .equal) (r .top .rising))
 
@@ -35,7 +35,7 @@ tracks-rule {s = s} k = record { rows = k .rows; tracks = omega (arith, k .track
 pub asked-rule : {a b : List ℤ} {s : ℕ} {d : ℤ} → Asked a b s d → Asked a b (ruleAt s) d
 asked-rule {s = s} k = record { rows = k .rows; tracks = omega (arith, k .tracks, rule-most s); offset = k .offset }
 
--- the separation that serves any accepted number of pairs is accepted, so the code gives it as it is
+-- the separation that any accepted number of pairs serves is accepted, so the code gives it as it is
 pub tracks-most : (n : ℕ) → n ≤ maxPairs → tracksFor n ≤ maxTracks
 tracks-most n h = omega (arith, tracks-near n)
 

@@ -1,5 +1,5 @@
--- 01, "Numbers we accept", with 02's #105, "Pads left of the datum", and #106, "Wires beside the lower stiffener". Each limit stands here once and in src/ once; those of a column and of an offset have
--- names in the header for C and in the wrapper for Rust too. negsuc k is -(k + 1).
+-- 01, "Numbers we accept", with 02's #105, "Pads left of the datum", and #106, "Wires beside the lower stiffener". Each limit stands here once and in
+-- src/ once; those of a column, an offset and a separation have names in the header for C and in the wrapper for Rust too. negsuc k is -(k + 1).
 --
 -- Worked, around a centre pin: C = rows -1,0,1 and -2,0,2. Its x are -1,-1,-1 and its y -2,-1,0.
 --   at separations 0 and 1, the rule's number 0: the differences x_i - y_i are 1, 0, -1: no offset; pair 0 sets the low end, pair 2 the high end

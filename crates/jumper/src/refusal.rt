@@ -2,7 +2,8 @@
 ghost use mathlib.Core.Path.{_≡_};
 ghost use Rattle.jumper.specs.Refusals.{refusalNumbers, refusedWith, sideNumber};
 
-// Which way top pads lie too far off: RIGHT, top pad i is too far right of bottom pad i + s; LEFT, top pad i + s is too far left of bottom pad i.
+// Which way top pads lie too far off: RIGHT, top pad i is too far right of bottom pad i + r; LEFT, top pad i + r is too far left of bottom pad i. r is the
+// number at which the rule is read for the separation.
 pub enum Side {
     Right,
     Left,

@@ -9,10 +9,10 @@ use crate::limits::MAX_TRACKS;
 pub fn rule_at(separation: usize) -> usize
     ensures { λ r. ⌜ r ≡ ruleAt separation ⌝ }
 {
-    if separation == 0 {
-        return 0;
+    if 0 < separation {
+        return separation - 1;
     }
-    separation - 1
+    0
 }
 
 // The least separation at which the rule is read at this number, as far as separations are accepted: no number of pairs needs more.

@@ -1,4 +1,4 @@
--- The columns of one wire: 01's, where a pad holds it and where none does, and ours, one straight step below.
+-- The columns of one wire: 01's, where a pad holds it and where none does, and ours, with one straight step put below.
 use mathlib.Core.Path.{_≡_, refl, sym, ap, _∙_}
 use mathlib.Core.Bool.{true, false}
 use mathlib.Core.List.{List, [], _∷_, _++_}
@@ -70,7 +70,7 @@ pub column-first : (n : ℕ) (a : ℕ → ℤ) (c : ℤ) (i : ℕ) → columnAt 
 unfolding entry
 column-first n a c i = rw rule-zero
 
--- WIRE i IN A BUFFER: 01's first s columns in the part after its first place, and then pad i's column there
+-- WIRE i IN A BUFFER: 01's first s columns in the part after its first place, and then pad i's column in the first place
 module _ (a b : List ℤ) (s : ℕ) (d : ℤ) (i : ℕ) (out : List ℤ) (room : s < length out) where
   abbrev e : ℕ → ℤ
   e = drawnOf a b d i

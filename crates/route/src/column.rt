@@ -9,7 +9,7 @@ ghost use Rattle.jumper.specs.Limits.{maxTracks, AcceptedOffset};
 ghost use Rattle.jumper.specs.Rows.{AcceptedRow};
 use jumper::serves::rule_at;
 
-// As far right as pad k lets a wire come that is t tracks up and t pads before it.
+// As far right as pad k lets 01's e_t of a wire come that is t pads before it.
 fn right_limit(a: &[i32], k: usize, t: usize) -> i32
     requires { ⌜ AcceptedRow (now a) × (k < length (now a)) × (t ≤ maxTracks) ⌝ }
     ensures { λ r. ⌜ r ≡ pad (now (a .entry)) k -ℤ pos t ⌝ }
@@ -17,7 +17,7 @@ fn right_limit(a: &[i32], k: usize, t: usize) -> i32
     a[k] - t as i32
 }
 
-// As far left as pad k lets a wire come that is t tracks up and t pads after it.
+// As far left as pad k lets 01's e_t of a wire come that is t pads after it.
 fn left_limit(a: &[i32], k: usize, t: usize) -> i32
     requires { ⌜ AcceptedRow (now a) × (k < length (now a)) × (t ≤ maxTracks) ⌝ }
     ensures { λ r. ⌜ r ≡ pad (now (a .entry)) k +ℤ pos t ⌝ }
@@ -25,7 +25,7 @@ fn left_limit(a: &[i32], k: usize, t: usize) -> i32
     a[k] + t as i32
 }
 
-// A wire from pad i to column c, to its right, on entering track t, where pad i + t still holds it.
+// 01's e_t of a wire from pad i to column c, to its right, where pad i + t still holds it.
 pub(crate) fn going_right(a: &[i32], c: i32, i: usize, t: usize) -> i32
     requires { ⌜ AcceptedRow (now a) × (i + t < length (now a)) × (t ≤ maxTracks) ⌝ }
     ensures { λ r. ⌜ r ≡ rightward (length (now (a .entry))) (pad (now (a .entry))) c i t ⌝ }

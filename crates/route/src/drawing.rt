@@ -145,7 +145,7 @@ fn draw_left(a: &[i32], c: i32, i: usize, k: usize, out: &mut [i32])
 }
 
 // The first k of 01's columns of a wire from pad i to column c. The direction is chosen once for the whole wire.
-fn draw_above(a: &[i32], c: i32, i: usize, k: usize, out: &mut [i32])
+fn draw_entries(a: &[i32], c: i32, i: usize, k: usize, out: &mut [i32])
     requires { ⌜ AcceptedRow (now a) × (length (now a) ≤ maxPairs) × (i < length (now a)) × (k ≤ length (now out)) ⌝ }
     ensures { λ r. ⌜ now (out .exit) ≡ columns (entry (length (now (a .entry))) (pad (now (a .entry))) c i) k ++ drop k (now (out .entry)) ⌝ }
 {
@@ -156,13 +156,13 @@ fn draw_above(a: &[i32], c: i32, i: usize, k: usize, out: &mut [i32])
     }
 }
 
-// Wire i into the first s + 1 places: its pad's column on track 0, and 01's columns above it.
+// Wire i into the first s + 1 places: its pad's column on track 0, and 01's columns above it. The first place is stored last: stored first, it cost a tenth.
 fn draw_columns(a: &[i32], b: &[i32], s: usize, d: i32, i: usize, out: &mut [i32])
     requires { ⌜ Asked (now a) (now b) s d × (i < length (now a)) × (s < length (now out)) ⌝ }
     ensures { λ r. ⌜ now (out .exit) ≡ wireDrawn (now (a .entry)) (now (b .entry)) s d i (now (out .entry)) ⌝ }
 {
     let c = top_pad(b, i, d);
-    draw_above(a, c, i, s, &mut out[1..]);
+    draw_entries(a, c, i, s, &mut out[1..]);
     out[0] = a[i];
 }
 

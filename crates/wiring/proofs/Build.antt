@@ -208,7 +208,7 @@ pub wire-ends : (e : ℕ → ℤ) (s : ℕ) (a c : ℤ) → Wire s a c (wireOf e
 unfolding wireOf
 wire-ends e s a c w = leads-end s (e s) c (at (e 0) 0) (upFrom e 0 s) (up-leads e 0 s s (omega arith)) (wire-walk s a c (wireOf e s) w .1)
 
--- and it leaves track 0 straight up, on its first column: it goes through its second column on track 0, so that is its first point
+-- and its second column is its first: it passes that column on track 0, and its only point there is its first
 pub wire-rises : (e : ℕ → ℤ) (s : ℕ) (a c : ℤ) → Wire s a c (wireOf e s) → 0 < s → e 1 ≡ e 0
 unfolding wireOf
 wire-rises e s a c w h = go (wire-fills e s (at (e 1) 0) .1 (inl (h, ⊎-elim (λ o. inl (o, omega arithℤ)) (λ o. inr (omega arithℤ, omega arithℤ)) (≤-or-< (e 0) (e 1)))))

@@ -1,4 +1,5 @@
--- Sufficient: 01's drawing is one clamp, its runs never touch, and it ends on the top pads exactly where the rule holds; one straight step below it, it is ours.
+-- Sufficient: 01's drawing is one clamp, its runs never touch, and it ends on the top pads exactly where the rule holds; with one straight step put below,
+-- it is ours.
 use mathlib.Core.Path.{_≡_, refl, ap}
 use mathlib.Core.Bool.{Bool, true, false, cond}
 use mathlib.Core.Logic.{_⊎_, inl, inr, ⊎-elim}
@@ -18,7 +19,7 @@ use Rattle.wiring.proofs.Rule.{spread, rising-less}
 use Rattle.wiring.proofs.Serves.{rule-zero, rule-next, rule-near}
 use Rattle.wiring.proofs.Build.{Ordered}
 
--- All that is needed of the column z on which a wire enters track t: it is c, held from the left by pad i - t and from the right by pad i + t.
+-- All that is needed of 01's column z = e_t of a wire: it is c, held from the left by pad i - t and from the right by pad i + t.
 pub record Clamped (n : ℕ) (a : ℕ → ℤ) (c : ℤ) (i t : ℕ) (z : ℤ) : Type 0 where
   pub lower : t ≤ i → (a (i - t) +ℤ pos t) ≤ℤ z
   pub upper : i + t < n → z ≤ℤ (a (i + t) -ℤ pos t)

@@ -20,12 +20,17 @@ pub rule-up : (t u : ℕ) → t ≤ u → ruleAt t ≤ ruleAt u
 unfolding ruleAt
 rule-up t u h = omega arith
 
+-- above 0 one less
+pub rule-above : (t : ℕ) → 0 < t → ruleAt t + 1 ≡ t
+unfolding ruleAt
+rule-above t h = omega arith
+
 -- one track more reads the rule at most one further on
 pub rule-near : (t u : ℕ) → t ≤ suc u → ruleAt t ≤ suc (ruleAt u)
 unfolding ruleAt
 rule-near t u h = omega arith
 
--- at the least separation that serves s the rule is read at s, at any smaller one below it, and at one track fewer just below it
+-- at the least separation that s serves the rule is read at s, at any smaller one below it, and at one track fewer just below it
 pub rule-back : (s : ℕ) → ruleAt (tracksFor s) ≡ s
 unfolding ruleAt tracksFor
 rule-back zero = refl
@@ -47,7 +52,7 @@ unfolding ruleAt tracksFor
 rule-under zero t h = absurd (omega arith)
 rule-under (suc r) t h = omega arith
 
--- at a number of pairs or more it is read exactly from one track more than there are pairs on
+-- the rule is read at n or more exactly at separations above n
 pub rule-past : (n t : ℕ) → 0 < n → n ≤ ruleAt t → n < t
 unfolding ruleAt
 rule-past n t some h = omega arith
@@ -56,7 +61,7 @@ pub past-rule : (n t : ℕ) → n < t → n ≤ ruleAt t
 unfolding ruleAt
 past-rule n t h = omega arith
 
--- "a least or best separation of 0 stays and any other grows by one": so none is 1
+-- "a least or best separation of 0 stays and any other grows by one"
 pub tracks-zero : tracksFor 0 ≡ 0
 unfolding tracksFor
 tracks-zero = refl
@@ -65,11 +70,6 @@ pub tracks-above : (s : ℕ) → 0 < s → tracksFor s ≡ s + 1
 unfolding tracksFor
 tracks-above zero h = absurd (omega arith)
 tracks-above (suc r) h = omega arith
-
-pub tracks-not-one : (s : ℕ) → tracksFor s ≡ 1 → ⊥
-unfolding tracksFor
-tracks-not-one zero h = omega arith
-tracks-not-one (suc r) h = omega arith
 
 pub tracks-some : (s : ℕ) → 0 < s → 0 < tracksFor s
 unfolding tracksFor

@@ -41,14 +41,16 @@ module _ (n s : ℕ) (a b : ℕ → ℤ) (d : ℤ) where
         high = λ i h. omega (arithℤ, g i h .1, dif (lean a (i + s)) (lean b i), dif (a (i + s)) (pos (i + s)), dif (b i) (pos i), sum (b i) d, sum (shifted b d i) (pos s));
       }
 
+-- pads that stand straight above each other meet the rule at 0
+same-clear : {n : ℕ} {a c : ℕ → ℤ} → ((i : ℕ) → i < n → a i ≡ c i) → Clear n 0 a c
+same-clear {n} {a} {c} e i h =
+    let g : i + 0 ≡ i = omega arith in
+    let f = e i (omega arith) in
+    (omega (arithℤ, f, sum (a i) (pos 0), ap c g), omega (arithℤ, f, sum (c i) (pos 0), ap a g))
+
 -- what a legal wiring says of the pads: over no track that they stand straight above each other, over s + 1 tracks what the diagonal says
 legal-clear : {n : ℕ} {a c : ℕ → ℤ} {w : ℕ → List Point} (s : ℕ) → Steady n a → Steady n c → Legal n s a c w → Clear n (ruleAt s) a c
-legal-clear {n} {a} {c} zero sa sc l =
-    rw rule-zero
-    (λ i h.
-    let g : i + 0 ≡ i = omega arith in
-    let e = upright l i (omega arith) in
-    (omega (arithℤ, e, sum (a i) (pos 0), ap c g), omega (arithℤ, e, sum (c i) (pos 0), ap a g)))
+legal-clear zero sa sc l = rw rule-zero (same-clear (upright l))
 legal-clear (suc s) sa sc l = rw (rule-next s) (λ i h. (left l sa sc i h, right l sa sc i h))
 
 module _ (n s : ℕ) (a b : ℕ → ℤ) (d : ℤ) (ra : Rising n a) (rb : Rising n b) where
@@ -69,9 +71,7 @@ straight n a b d = (
       let g : i + 0 ≡ i = omega arith in
       let c = fits-clear n 0 a b d f i (omega arith) in
       omega (arithℤ, c .0, c .1, sum (a i) (pos 0), sum (shifted b d i) (pos 0), ap (shifted b d) g, ap a g)),
-  (λ e. clear-fits n 0 a b d (λ i h.
-      let g : i + 0 ≡ i = omega arith in
-      (omega (arithℤ, e i (omega arith), sum (a i) (pos 0), ap (shifted b d) g), omega (arithℤ, e i (omega arith), sum (shifted b d i) (pos 0), ap a g)))),
+  (λ e. clear-fits n 0 a b d (same-clear e)),
 )
 
 -- the same of wirings: there is one at s = 0 exactly when every top pad stands straight above its bottom pad
@@ -95,10 +95,11 @@ wirable-next n s a b d ra rb w =
     fit-exactly n (suc s) a b d ra rb .1
     (fits-above (lean-steady ra) (lean-steady rb) (ruleAt (suc s) - ruleAt s) (ruleAt s) (ruleAt (suc s)) (omega (arith, rule-up s (suc s) (omega arith))) (fit-exactly n s a b d ra rb .0 w))
 
--- "every offset fits only above n": at n tracks and fewer one past the high end of pair 0 does not
+-- where the rule has no pairs to meet, every offset has a wiring
 pub wide-enough : (n s : ℕ) (a b : ℕ → ℤ) (d : ℤ) → Rising n a → Rising n b → n ≤ ruleAt s → Wirable n s a (shifted b d)
 wide-enough n s a b d ra rb h = fit-exactly n s a b d ra rb .1 (fits-past n (ruleAt s) (lean a) (lean b) d h)
 
+-- "every offset fits only above n": at n tracks and fewer one past the high end of pair 0 does not
 pub every-offset : (n s : ℕ) (a b : ℕ → ℤ) → 0 < n → Rising n a → Rising n b → ((d : ℤ) → Wirable n s a (shifted b d)) ↔ (n < s)
 every-offset n s a b some ra rb = ((λ w. rule-past n s some (past w)), (λ h d. wide-enough n s a b d ra rb (past-rule n s h)))
   where

@@ -1,5 +1,5 @@
 -- The jumpers worked by hand, 01's marked with a star and those of 02's requests, as one table: what the definitions tell, beside what is said by hand.
--- A separation above 0 is one more than 01 has it, for 02's #106; sentences of 01 that still stand as they are stand in quotes.
+-- A separation above 0 is one more than 01 has it, for 02's #106. What stands in quotes is 01's, unchanged.
 -- That the two are equal in every case is the theorem `worked` of proofs/Worked.antt.
 use mathlib.Core.List.{List, [], _∷_, map}
 use Prim.Native.Nat.{ℕ}
@@ -100,6 +100,9 @@ least s i k = result 0 0 0 s (pos 0) (pos 0) i k 0
 abbrev pub prevented : (pair side : ℕ) → List ℤ
 prevented i k = result 10 0 0 0 (pos 0) (pos 0) i k 0
 
+abbrev pub accepted : List ℤ
+accepted = result 0 0 0 0 (pos 0) (pos 0) 0 0 0
+
 abbrev pub badWire : (wire track : ℕ) → List ℤ
 badWire i t = result 16 i t 0 (pos 0) (pos 0) 0 0 0
 
@@ -129,7 +132,7 @@ table =
     -- S, d 0: least 5. "S best: 0, offsets -1..-1, count 12."
     ∷ case (leastAt S (pos 0)) (least 5 0 1)
     ∷ case (best S) (found 0 (negsuc 0) (negsuc 0) 12)
-    -- J best: 3, offsets -1..1, count 14, and as before "ladder 4:2, 2:1, 1:0." J at 2: NOOFFSET, 2 for the low end, 0 for the high
+    -- J best: 3, offsets -1..1, count 14, "ladder 4:2, 2:1, 1:0." J at 2: NOOFFSET, 2 for the low end, 0 for the high
     ∷ case (best J) (found 3 (negsuc 0) (pos 1) 14)
     ∷ case (ladder J (lent 8)) (whole (4 ∷ 2 ∷ 2 ∷ 1 ∷ 1 ∷ 0 ∷ 9 ∷ 9 ∷ []))
     ∷ case (rangeAt J 2) (noOffset 2 0)
@@ -146,7 +149,7 @@ table =
     ∷ case (stretchAt T 2 (pos 0)) (whole (0 ∷ 1 ∷ []))
     -- T drawn at (3, 0): 0,0,0,1 / 1,1,2,2, which the checker accepts; wire 1 may not step aside on track 0
     ∷ case (drawnAt T 3 (pos 0) (whole (lent 9))) (whole (0 ∷ 0 ∷ 0 ∷ 1 ∷ 1 ∷ 1 ∷ 2 ∷ 2 ∷ 9 ∷ []))
-    ∷ case (checkedAt T 3 (pos 0) (whole (0 ∷ 0 ∷ 0 ∷ 1 ∷ 1 ∷ 1 ∷ 2 ∷ 2 ∷ []))) (least 0 0 0)
+    ∷ case (checkedAt T 3 (pos 0) (whole (0 ∷ 0 ∷ 0 ∷ 1 ∷ 1 ∷ 1 ∷ 2 ∷ 2 ∷ []))) accepted
     ∷ case (checkedAt T 3 (pos 0) (whole (0 ∷ 0 ∷ 0 ∷ 1 ∷ 1 ∷ 2 ∷ 2 ∷ 2 ∷ []))) (badWire 1 0)
     ∷ case (checkedAt T 3 (pos 0) (whole (0 ∷ 0 ∷ 0 ∷ 1 ∷ 1 ∷ 0 ∷ 2 ∷ 2 ∷ []))) (badWire 0 0)
     -- C at 0 and at 1: NOOFFSET, 0 for the low end, 2 for the high; range at 2 is 0..0, at 3 is -1..1, at 4 -131,070..131,070

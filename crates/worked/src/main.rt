@@ -61,7 +61,7 @@ fn side_by_side() -> [i32; 2049]
     row
 }
 
-// "2,048 pairs pass, 2,049 LONG." With every top pad one column to the right, 2,048 pairs need one track more, and no rows need more than that.
+// "2,048 pairs pass, 2,049 LONG." With every top pad one column to the right, 2,048 pairs need one track more than there are pairs; no rows need more.
 fn pairs() {
     let row = side_by_side();
     let most = &row[..2048];

@@ -16,9 +16,9 @@ extern "C" {
     fn before_answer_all(table: *mut Line, lines: usize, a: *const i32, an: usize, b: *const i32, bn: usize) -> u8;
 }
 
-/// A change may change an answer: then the two sides did not do the same work.
+/// A change may change an answer: then the two sides may not have done the same work. Where the earlier calls count tracks otherwise they always differ.
 fn same(agree: bool) {
-    if !agree {
+    if !agree && fewer() == 0 {
         println!("    (the answers differ)");
     }
 }
@@ -32,7 +32,7 @@ fn rule(n: usize, tight: bool) {
     let kind = kind(tight);
     let (a, b) = rows(n, tight, 7 + n as u64);
     let s = obrastyn::least(&a, &b, 0).separation;
-    let earlier = s - fewer();
+    let earlier = s.saturating_sub(fewer());
     let (x, y) = (&a[..], &b[..]);
     let (p, q) = (a.as_ptr(), b.as_ptr());
     let (mut now, mut then) = ([0usize; 24], [0usize; 24]);

@@ -1,6 +1,6 @@
 //! The proved library against the reference, which was written from documents 01 and 02 alone: random rows and tables, small and at
 //! the limits, valid and damaged. Lent buffers stand between sentinels, and what lies beyond must be untouched.
-use obrastyn::Numbers;
+use obrastyn::{Numbers, MOST_TRACKS};
 use reference::random::{any_rows, offset, rows, separation, Random};
 use reference::{halving, rule, wires};
 
@@ -74,7 +74,7 @@ fn drawings(random: &mut Random, most: usize, rounds: usize) {
         let (a, b) = any_rows(random, most);
         let d = offset(random, &a, &b);
         let s = match random.below(3) {
-            0 => separation(random, a.len()).min(2050),
+            0 => separation(random, a.len()).min(MOST_TRACKS + 1),
             _ => rule::least(&a, &b, d).separation + random.below(2),
         };
         let what = || format!("round {round}: {a:?} {b:?} s {s} d {d}");
@@ -109,7 +109,7 @@ fn tables(random: &mut Random, most: usize, rounds: usize) {
         let (a, b) = if random.once_in(12) { any_rows(random, most) } else { rows(random, most) };
         let d = offset(random, &a, &b);
         let least = rule::least(&a, &b, d).separation;
-        let s = if random.once_in(20) { separation(random, a.len()).min(2050) } else { least + random.below(2) };
+        let s = if random.once_in(20) { separation(random, a.len()).min(MOST_TRACKS + 1) } else { least + random.below(2) };
         let places = (a.len() * (s + 1)).min(40_000);
         let mut table = vec![0; places + random.below(3)];
         wires::draw_all(&a, &b, s, d, &mut table);

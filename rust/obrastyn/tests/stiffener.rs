@@ -20,7 +20,7 @@ fn three_tracks() {
     assert_eq!(check(&a, &b, 3, 0, &[0, 0, 0, 1, 1, 0, 2, 2]), fault(0));
 }
 
-/// Separations 0 and 1 fit alike, no least or best separation is 1, every offset fits exactly above n, and one track more never hurts.
+/// Separations 0 and 1 fit alike, no least or best separation is 1, all offsets fit exactly at separations above n, and one track more never hurts.
 #[test]
 fn every_jumper() {
     let mut random = Random::new(106);
@@ -55,14 +55,12 @@ fn stepping_aside() {
         let mut table = vec![0; a.len() * (s + 1)];
         assert_eq!(draw_all(&a, &b, s, d, &mut table).refusal, 0);
         assert!(table.chunks(s + 1).zip(&a).all(|(wire, pad)| wire[0] == *pad && wire[1] == *pad));
-        if s > 1 {
-            let wire = random.below(a.len());
-            let by = [-2, -1, 1, 2][random.below(4)];
-            table[wire * (s + 1) + 1] += by;
-            let told = check(&a, &b, s, d, &table);
-            let meets = by < 0 && wire > 0 && table[wire * (s + 1) + 1] <= a[wire - 1];
-            assert_eq!((told.refusal, told.place, told.second), (16, wire - meets as usize, 0), "round {round}: {a:?} {b:?} d {d} {table:?}");
-        }
+        let wire = random.below(a.len());
+        let by = [-2, -1, 1, 2][random.below(4)];
+        table[wire * (s + 1) + 1] += by;
+        let told = check(&a, &b, s, d, &table);
+        let meets = by < 0 && wire > 0 && table[wire * (s + 1) + 1] <= a[wire - 1];
+        assert_eq!((told.refusal, told.place, told.second), (16, wire - meets as usize, 0), "round {round}: {a:?} {b:?} d {d} {table:?}");
     }
 }
 

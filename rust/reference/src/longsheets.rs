@@ -14,8 +14,8 @@ pub const READ: usize = 65_536;
 pub const WRITTEN: usize = 131_072;
 
 /// The frames of an order for a separation and an offset, 16 columns a frame. Its rows have a pad on
-/// every third column, so an offset of twice the tracks between the rows' own just fits, and then
-/// each wire moves on every one of these but where there are no pads left to hold it.
+/// every third column, so at separation s an offset of 2(s - 1) just fits, and then each wire
+/// moves on every track above 0 but where there are no pads left to hold it.
 fn order(line: u8, n: usize, separation: u16, offset: i32) -> Vec<Vec<u8>> {
     let row: Vec<i32> = (0..n as i32).map(|i| 3 * i).collect();
     let mut frames = vec![frame_10(line, n as u16, separation, offset)];

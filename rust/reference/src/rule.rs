@@ -3,7 +3,8 @@
 //! 01 states the rule for wires that may run along track 0. Request 106 forbids them that, and a
 //! jumper fits at a separation above 0 where it fitted at one track fewer before. So the rule stays
 //! as 01 states it, for a number r in the place of 01's s, and what changes is which number it is
-//! read at: [`rule_at`] says that, [`tracks_for`] says it the other way, and nothing else does.
+//! read at: [`rule_at`] says that, [`tracks_for`] says it the other way, and nothing else in the
+//! reference does (the baseline draws its straight step by hand).
 //! Here r is always such a number and s a separation.
 
 use crate::numbers::*;

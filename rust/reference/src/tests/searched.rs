@@ -85,7 +85,7 @@ fn every_smallest_jumper_by_backtracking() {
     assert!(fitting > 500 && misfits > 500, "{fitting} {misfits}");
 }
 
-/// A wire of one point on one track and one of two points on two are straight alike.
+/// At separation 0 a wire is one point, at 1 two, one above the other: straight either way.
 #[test]
 fn separations_0_and_1_have_wirings_alike() {
     let (mut fitting, mut misfits) = (0, 0);
@@ -112,6 +112,10 @@ fn every_offset_has_a_wiring_only_above_n() {
             for b in all_rows(n, -1, 2) {
                 for d in [-7, -3, -1, 0, 1, 3, 7] {
                     assert!(exists_wiring(&a, &b, n + 1, d), "{a:?} {b:?} at {d}");
+                }
+                // Far out, no wire of these rows can come round at n tracks.
+                for d in [-7, 7] {
+                    assert!(!exists_wiring(&a, &b, n, d), "{a:?} {b:?} at {d}");
                 }
             }
         }

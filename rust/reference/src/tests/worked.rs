@@ -1,4 +1,4 @@
-//! The jumpers worked by hand and the traps on the bench, with request 106's track more below.
+//! The jumpers worked by hand and the traps on the bench, with request 106's step from the pad.
 
 use super::*;
 use crate::numbers::*;
@@ -84,7 +84,7 @@ fn j() {
     assert_eq!(table[16], 77);
     assert_eq!(check(&a, &b, 3, 0, &table), Numbers::default());
     assert!(legal_table(&a, &b, 3, 0, &table));
-    // The drawing of before, at one track fewer, steps aside on track 0 and isn't legal now.
+    // 01's drawing at one track fewer steps aside on track 0: not legal.
     let before = [0, 0, 1, 1, 2, 2, 4, 3, 3, 5, 5, 4];
     let refused = Numbers::refused_at(BADWIRE, 1, 0);
     assert_eq!(check(&a, &b, 2, 0, &before), refused);
@@ -196,7 +196,7 @@ fn trap_of_running_along_track_s() {
     assert!(exists_wiring(&a, &b, 3, 0));
 }
 
-/// Request 106's own trap: wirings that 01 let pass and that are none any more.
+/// Request 106's own trap: wirings along track 0, which 01's words alone would let pass.
 #[test]
 fn trap_of_running_along_track_0() {
     // Straight along track 0, and down to it again at another column.

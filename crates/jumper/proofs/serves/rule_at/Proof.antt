@@ -3,16 +3,16 @@ use Rattle.wiring.specs.Tracks.{ruleAt}
 use Rattle.jumper.proofs.serves.rule_at.Statement.{statement}
 use Rattle.jumper.proofs.serves.rule_at.Tie as tie
 
+sub-result : tie.Need-sub-result
+sub-result c = omega (arith, c .if1 .taken)
+
 returns : tie.Need-returns
 unfolding ruleAt
-returns c = omega (arith, c .if1 .taken)
-
-sub-result : tie.Need-sub-result
-sub-result c = omega (arith, c .if1 .left)
+returns c = omega arith
 
 returns-2 : tie.Need-returns-2
 unfolding ruleAt
-returns-2 c = omega arith
+returns-2 c = omega (arith, c .if1 .left)
 
 pub rule-at-spec : {M : Type 1} → statement M
-rule-at-spec = tie.close (tie.spec returns sub-result returns-2)
+rule-at-spec = tie.close (tie.spec sub-result returns returns-2)

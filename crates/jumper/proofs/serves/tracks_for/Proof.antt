@@ -1,13 +1,10 @@
-use mathlib.Core.Path.{_≡_}
 use native.Mathlib.Omega.{arith}
 use Rattle.wiring.proofs.Serves.{tracks-zero, tracks-above}
 use Rattle.jumper.proofs.serves.tracks_for.Statement.{statement}
 use Rattle.jumper.proofs.serves.tracks_for.Tie as tie
 
 returns : tie.Need-returns
-returns c =
-    let none : c .before .args .number ≡ 0 = c .if1 .taken in
-    rw (none, tracks-zero) (omega arith)
+returns c = rw (c .if1 .taken, tracks-zero) (omega arith)
 
 returns-2 : tie.Need-returns-2
 returns-2 c =

@@ -13,17 +13,17 @@ top-pad-requires c κs =
     let s = c .args in
     (c .pre .0 .rows .top, rw (toZ-ofZ w32 (s .d) (c .fits .d)) (c .pre .0 .offset), omega (arith, c .pre .0 .rows .equal))
 
-sub-draw-above : tie.Need-sub-draw-above
-sub-draw-above c = search needs
+sub-draw-entries : tie.Need-sub-draw-entries
+sub-draw-entries c = search needs
 
-part-draw-above-start : tie.Need-part-draw-above-start
-part-draw-above-start c = search needs
+part-draw-entries-start : tie.Need-part-draw-entries-start
+part-draw-entries-start c = search needs
 
-part-draw-above-end : tie.Need-part-draw-above-end
-part-draw-above-end c = search needs
+part-draw-entries-end : tie.Need-part-draw-entries-end
+part-draw-entries-end c = search needs
 
-draw-above-requires : tie.Need-draw-above-requires
-draw-above-requires c κs =
+draw-entries-requires : tie.Need-draw-entries-requires
+draw-entries-requires c κs =
     let at-start = c .before .before in
     let s = at-start .args in
     let rows = at-start .pre .0 .rows in
@@ -40,15 +40,15 @@ slice-set-from-out c = search needs
 
 returns : tie.Need-returns
 returns c =
-    let at-draw-above = c .before .before in
-    let at-top-pad = at-draw-above .before .before in
+    let at-draw-entries = c .before .before in
+    let at-top-pad = at-draw-entries .before .before in
     let at-start = at-top-pad .before in
     let s = at-start .args in
     let t = at-top-pad .top-pad in
     let x = toZ-ofZ w32 (t .result) (sfits-of (t .ok)) in
     let top = rw (toZ-ofZ w32 (s .d) (at-start .fits .d)) at (t .ensures) in
     let first = back (pad (s .a .now) (s .i)) (c .out2 .given) in
-    wire-drawn (s .a .now) (s .b .now) (s .s) (s .d) (s .i) (s .out .now) (at-start .pre .2) (t .result) _ _ top first (rw x at (at-draw-above .draw-above .ensures))
+    wire-drawn (s .a .now) (s .b .now) (s .s) (s .d) (s .i) (s .out .now) (at-start .pre .2) (t .result) _ _ top first (rw x at (at-draw-entries .draw-entries .ensures))
 
 same-length : tie.Need-same-length
 same-length c =
@@ -61,10 +61,10 @@ draw-columns-spec =
     tie.close
     (tie.spec
     top-pad-requires
-    sub-draw-above
-    part-draw-above-start
-    part-draw-above-end
-    draw-above-requires
+    sub-draw-entries
+    part-draw-entries-start
+    part-draw-entries-end
+    draw-entries-requires
     mul-out
     shared-slice-copy-out-out
     slice-set-from-out

@@ -8,8 +8,8 @@ use mir.ValLaws.{toZ-ofZ}
 use Rattle.whole.proofs.Machine.{back}
 use Rattle.wiring.specs.Wiring.{pad}
 use Rattle.route.proofs.Wires.{left-columns, right-columns}
-use Rattle.route.proofs.drawing.draw_above.Statement.{statement}
-use Rattle.route.proofs.drawing.draw_above.Tie as tie
+use Rattle.route.proofs.drawing.draw_entries.Statement.{statement}
+use Rattle.route.proofs.drawing.draw_entries.Tie as tie
 
 mul-if1 : tie.Need-mul-if1
 mul-if1 c = search needs
@@ -49,8 +49,8 @@ returns-2 c =
     (rw x at (c .before .draw-right .ensures))
     ∙ ap (λ (z : List ℤ). z ++ drop (s .k) (s .out .now)) (right-columns (length (s .a .now)) (pad (s .a .now)) (s .c) (s .i) (s .k) (at-start .pre .2) (rw (x, e) at (at-if1 .if1 .left)))
 
-pub draw-above-spec : {M : Type 1} → statement M
-draw-above-spec =
+pub draw-entries-spec : {M : Type 1} → statement M
+draw-entries-spec =
     tie.close
     (tie.spec
     mul-if1
