@@ -15,7 +15,7 @@ use Rattle.whole.proofs.Order.{true-lt, false-lt, lt-false}
 use Rattle.wiring.specs.Wiring.{HasWiring}
 use Rattle.wiring.specs.Fit.{leanOf, Steady, lowEnd, highEnd, Fits, TooRight, TooLeft}
 use Rattle.wiring.specs.Tracks.{ruleAt, tracksFor}
-use Rattle.wiring.proofs.Rule.{lean-steady, fits-above, ends-next, right-breaks, left-breaks}
+use Rattle.wiring.proofs.Rule.{lean-steady, fits-above, fits-past, ends-next, right-breaks, left-breaks}
 use Rattle.wiring.proofs.Serves.{rule-zero, rule-back, rule-below, rule-fewer, tracks-up}
 use Rattle.jumper.specs.Limits.{maxTracks}
 use Rattle.jumper.specs.Asked.{checkOffset, AcceptedShift, Asked}
@@ -62,7 +62,8 @@ steady-fewer : {n : ℕ} {x : ℕ → ℤ} → Steady (suc n) x → Steady n x
 steady-fewer s i j h l = s i j h (omega arith)
 
 -- one pair more, by the test at the number found before it
-one-more : (n : ℕ) (x y : ℕ → ℤ) (d : ℤ) (s : ℕ) → Steady (suc n) x → Steady (suc n) y → Leastly n x y d s → (t : Bool) → breaksAt x y s d (n - s) ≡ t → Leastly (suc n) x y d (cond t (suc s) s)
+one-more : (n : ℕ) (x y : ℕ → ℤ) (d : ℤ) (s : ℕ) → Steady (suc n) x → Steady (suc n) y → Leastly n x y d s
+    → (t : Bool) → breaksAt x y s d (n - s) ≡ t → Leastly (suc n) x y d (cond t (suc s) s)
 one-more n x y d s sx sy l true e =
     let b = breaks x y s d (suc n) (n - s) (omega (arith, l .within)) e in
     record {
@@ -91,8 +92,10 @@ one-more n x y d s sx sy l false e =
 
 pub leastly : (n : ℕ) (x y : ℕ → ℤ) (d : ℤ) → Steady n x → Steady n y → Leastly n x y d (leastOf x y d n)
 unfolding leastOf
-leastly zero x y d sx sy = record { within = omega arith; fits = record { low = λ i h. absurd (omega arith); high = λ i h. absurd (omega arith) }; least = λ t h f. absurd (omega arith) }
-leastly (suc n) x y d sx sy = one-more n x y d (leastOf x y d n) sx sy (leastly n x y d (steady-fewer sx) (steady-fewer sy)) (breaksAt x y (leastOf x y d n) d (n - leastOf x y d n)) refl
+leastly zero x y d sx sy = record { within = omega arith; fits = fits-past 0 0 x y d (omega arith); least = λ t h f. absurd (omega arith) }
+leastly (suc n) x y d sx sy =
+    let s = leastOf x y d n in
+    one-more n x y d s sx sy (leastly n x y d (steady-fewer sx) (steady-fewer sy)) (breaksAt x y s d (n - s)) refl
 
 -- there is one least number
 pub least-once : {n : ℕ} {x y : ℕ → ℤ} {d : ℤ} {s t : ℕ} → Leastly n x y d s → Leastly n x y d t → s ≡ t
@@ -164,7 +167,9 @@ pub record Seeking (a b : List ℤ) (d : ℤ) (s i : ℕ) (right : Bool) : Type 
   pub last : 0 < s → misfitOf a b (s - 1) d ≡ At i (sideOf right)
 
 pub seek-start : (a b : List ℤ) (d : ℤ) → Seeking a b d 0 0 true
-seek-start a b d = let e : length a - 0 - 0 ≡ length a - 0 = omega arith in record { below = omega arith; start = omega arith; here = rw e; last = λ h. absurd (omega arith) }
+seek-start a b d =
+    let e : length a - 0 - 0 ≡ length a - 0 = omega arith in
+    record { below = omega arith; start = omega arith; here = rw e; last = λ h. absurd (omega arith) }
 
 -- free pairs are passed over
 skip : (x y : ℕ → ℤ) (s : ℕ) (d : ℤ) (n j : ℕ) → ((k : ℕ) → k < j → (k + s < n) × Free x y s d k) → misfitFrom x y s d 0 (n - s) ≡ misfitFrom x y s d j (n - s - j)
@@ -184,7 +189,8 @@ module _ (a b : List ℤ) (d : ℤ) (k : AcceptedShift a b d) (s i : ℕ) (right
   pub seek-asked : Asked a b s d
   seek-asked = record { rows = k .rows; tracks = omega (arith, c .below, k .rows .few); offset = k .offset }
 
-  pub seek-next : (j : ℕ) (side : Side) → misfitFrom (leanOf a) (leanOf b) s d i (length a - s - i) ≡ At j side → (s < length a) × Seeking a b d (s + 1) j (isRight side)
+  pub seek-next : (j : ℕ) (side : Side) → misfitFrom (leanOf a) (leanOf b) s d i (length a - s - i) ≡ At j side
+      → (s < length a) × Seeking a b d (s + 1) j (isRight side)
   seek-next j side e =
       let m : misfitOf a b s d ≡ At j side = c .here ∙ e in
       let l = broken-inside (at-broken a b s d j side m) in
@@ -220,7 +226,8 @@ module _ (a b : List ℤ) (d : ℤ) (k : AcceptedShift a b d) (s i : ℕ) (right
   pub seek-straight : misfitFrom (leanOf a) (leanOf b) s d i (length a - s - i) ≡ None → s ≡ 0 → LeastAnswer a b d Straight
   seek-straight e z = straight a b d k (sym (seek-done e) ∙ z)
 
-  pub seek-tracks : (t : ℕ) → t ≡ min (tracksFor s) maxTracks → misfitFrom (leanOf a) (leanOf b) s d i (length a - s - i) ≡ None → 0 < s → LeastAnswer a b d (Tracks t i (sideOf right))
+  pub seek-tracks : (t : ℕ) → t ≡ min (tracksFor s) maxTracks → misfitFrom (leanOf a) (leanOf b) s d i (length a - s - i) ≡ None → 0 < s
+      → LeastAnswer a b d (Tracks t i (sideOf right))
   seek-tracks t q e h =
       let f = seek-done e in
       let g : t ≡ tracksFor s = q ∙ tracks-given s (omega (arith, c .below, k .rows .few)) in

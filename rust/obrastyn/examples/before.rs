@@ -29,7 +29,7 @@ fn fewer() -> usize {
 }
 
 fn rule(n: usize, tight: bool) {
-    let kind = kind(tight);
+    let name = |call: &str| format!("{call}, {n} pairs, {}", kind(tight));
     let (a, b) = rows(n, tight, 7 + n as u64);
     let s = obrastyn::least(&a, &b, 0).separation;
     let earlier = s.saturating_sub(fewer());
@@ -38,12 +38,16 @@ fn rule(n: usize, tight: bool) {
     let (mut now, mut then) = ([0usize; 24], [0usize; 24]);
     let faulty = last_at_fault(y);
     let (f, g) = (&faulty[..], faulty.as_ptr());
-    row(&format!("rows, {n} pairs, {kind}"), race(|| obrastyn::rows(black_box(x), black_box(y)), || unsafe { before_obrastyn_rows(black_box(p), n, black_box(q), n) }));
-    row(&format!("rows, {n} pairs, {kind}, last at fault"), race(|| obrastyn::rows(black_box(x), black_box(f)), || unsafe { before_obrastyn_rows(black_box(p), n, black_box(g), n) }));
-    row(&format!("fit, {n} pairs, {kind}"), race(|| obrastyn::fit(black_box(x), black_box(y), s, 0), || unsafe { before_obrastyn_fit(black_box(p), n, black_box(q), n, earlier, 0) }));
-    row(&format!("least, {n} pairs, {kind}"), race(|| obrastyn::least(black_box(x), black_box(y), 0), || unsafe { before_obrastyn_least(black_box(p), n, black_box(q), n, 0) }));
-    row(&format!("range, {n} pairs, {kind}"), race(|| obrastyn::range(black_box(x), black_box(y), s), || unsafe { before_obrastyn_range(black_box(p), n, black_box(q), n, earlier) }));
-    row(&format!("best, {n} pairs, {kind}"), race(|| obrastyn::best(black_box(x), black_box(y), &mut now), || unsafe { before_obrastyn_best(black_box(p), n, black_box(q), n, then.as_mut_ptr(), 24) }));
+    row(&name("rows"), race(|| obrastyn::rows(black_box(x), black_box(y)), || unsafe { before_obrastyn_rows(black_box(p), n, black_box(q), n) }));
+    row(&(name("rows") + ", last at fault"), race(|| obrastyn::rows(black_box(x), black_box(f)), || unsafe { before_obrastyn_rows(black_box(p), n, black_box(g), n) }));
+    row(&name("fit"), race(|| obrastyn::fit(black_box(x), black_box(y), s, 0), || unsafe { before_obrastyn_fit(black_box(p), n, black_box(q), n, earlier, 0) }));
+    row(&name("least"), race(|| obrastyn::least(black_box(x), black_box(y), 0), || unsafe { before_obrastyn_least(black_box(p), n, black_box(q), n, 0) }));
+    row(&name("range"), race(|| obrastyn::range(black_box(x), black_box(y), s), || unsafe { before_obrastyn_range(black_box(p), n, black_box(q), n, earlier) }));
+    let best = race(
+        || obrastyn::best(black_box(x), black_box(y), &mut now),
+        || unsafe { before_obrastyn_best(black_box(p), n, black_box(q), n, then.as_mut_ptr(), 24) },
+    );
+    row(&name("best"), best);
     same(now == then);
     same(obrastyn::least(x, y, 0) == unsafe { before_obrastyn_least(p, n, q, n, 0) });
     same(obrastyn::range(x, y, s) == unsafe { before_obrastyn_range(p, n, q, n, earlier) });
@@ -58,8 +62,16 @@ fn route(n: usize, s: usize) {
     let mut then = now.clone();
     let room = now.len();
     assert_eq!(obrastyn::draw_all(x, y, s, 0, &mut now).refusal, 0);
-    row(&format!("draw all, {n} pairs by {s} tracks"), race(|| obrastyn::draw_all(black_box(x), black_box(y), s, 0, &mut now), || unsafe { before_obrastyn_draw_all(black_box(p), n, black_box(q), n, s, 0, then.as_mut_ptr(), room) }));
-    row(&format!("check, {n} pairs by {s} tracks"), race(|| obrastyn::check(black_box(x), black_box(y), s, 0, &now), || unsafe { before_obrastyn_check(black_box(p), n, black_box(q), n, s, 0, then.as_ptr(), room) }));
+    let drawn = race(
+        || obrastyn::draw_all(black_box(x), black_box(y), s, 0, &mut now),
+        || unsafe { before_obrastyn_draw_all(black_box(p), n, black_box(q), n, s, 0, then.as_mut_ptr(), room) },
+    );
+    row(&format!("draw all, {n} pairs by {s} tracks"), drawn);
+    let checked = race(
+        || obrastyn::check(black_box(x), black_box(y), s, 0, &now),
+        || unsafe { before_obrastyn_check(black_box(p), n, black_box(q), n, s, 0, then.as_ptr(), room) },
+    );
+    row(&format!("check, {n} pairs by {s} tracks"), checked);
     same(now == then);
 }
 
@@ -68,7 +80,8 @@ fn whole_form(tight: bool) {
     let mut then = now.clone();
     let (x, y, n, kind) = (&a[..], &b[..], a.len(), kind(tight));
     let (p, q) = (a.as_ptr(), b.as_ptr());
-    row(&format!("form, 64 lines of 2048 pairs, {kind}"), race(|| obrastyn::answer_all(black_box(&mut now), x, y), || unsafe { before_answer_all(black_box(then.as_mut_ptr()), 64, p, n, q, n) }));
+    let answered = race(|| obrastyn::answer_all(black_box(&mut now), x, y), || unsafe { before_answer_all(black_box(then.as_mut_ptr()), 64, p, n, q, n) });
+    row(&format!("form, 64 lines of 2048 pairs, {kind}"), answered);
     same(now == then);
 }
 

@@ -7,25 +7,33 @@ use reference::baseline;
 use std::hint::black_box;
 
 fn rule(n: usize, tight: bool) {
-    let kind = kind(tight);
+    let name = |call: &str, how: &str| format!("{call}, {n} pairs, {}{how}", kind(tight));
     let (a, b) = rows(n, tight, 7 + n as u64);
     let least = obrastyn::least(&a, &b, 0).separation;
     let (x, y) = (&a[..], &b[..]);
     let faulty = last_at_fault(y);
-    row(&format!("rows, {n} pairs, {kind}"), race(|| obrastyn::rows(black_box(x), black_box(y)), || baseline::accept_rows(black_box(x), black_box(y))));
-    row(&format!("rows, {n} pairs, {kind}, last at fault"), race(|| obrastyn::rows(black_box(x), black_box(&faulty)), || baseline::accept_rows(black_box(x), black_box(&faulty))));
-    row(&format!("fit, {n} pairs, {kind}, at the least"), race(|| obrastyn::fit(black_box(x), black_box(y), least, 0), || baseline::fit(black_box(x), black_box(y), least, 0)));
-    row(&format!("fit, {n} pairs, {kind}, at 2"), race(|| obrastyn::fit(black_box(x), black_box(y), 2, 0), || baseline::fit(black_box(x), black_box(y), 2, 0)));
-    row(&format!("least, {n} pairs, {kind}"), race(|| obrastyn::least(black_box(x), black_box(y), 0), || baseline::least(black_box(x), black_box(y), 0)));
-    row(&format!("range, {n} pairs, {kind}, at the least"), race(|| obrastyn::range(black_box(x), black_box(y), least), || baseline::range(black_box(x), black_box(y), least)));
-    row(&format!("range, {n} pairs, {kind}, at 2"), race(|| obrastyn::range(black_box(x), black_box(y), 2), || baseline::range(black_box(x), black_box(y), 2)));
+    for (how, y) in [("", y), (", last at fault", &faulty[..])] {
+        row(&name("rows", how), race(|| obrastyn::rows(black_box(x), black_box(y)), || baseline::accept_rows(black_box(x), black_box(y))));
+    }
+    let places = [(", at the least", least), (", at 2", 2)];
+    for (how, s) in places {
+        row(&name("fit", how), race(|| obrastyn::fit(black_box(x), black_box(y), s, 0), || baseline::fit(black_box(x), black_box(y), s, 0)));
+    }
+    row(&name("least", ""), race(|| obrastyn::least(black_box(x), black_box(y), 0), || baseline::least(black_box(x), black_box(y), 0)));
+    for (how, s) in places {
+        row(&name("range", how), race(|| obrastyn::range(black_box(x), black_box(y), s), || baseline::range(black_box(x), black_box(y), s)));
+    }
     let (mut ours, mut plain) = ([0usize; 24], [0usize; 24]);
-    row(&format!("best, {n} pairs, {kind}"), race(|| obrastyn::best(black_box(x), black_box(y), &mut ours), || baseline::best_with_ladder(black_box(x), black_box(y), &mut plain)));
-    row(&format!("best, {n} pairs, {kind}, against copies"), race(|| obrastyn::best(black_box(x), black_box(y), &mut ours), || baseline::best_by_copies(black_box(x), black_box(y), &mut plain)));
+    let mut ladders = |best: fn(&[i32], &[i32], &mut [usize]) -> reference::numbers::Numbers| {
+        race(|| obrastyn::best(black_box(x), black_box(y), &mut ours), || best(black_box(x), black_box(y), &mut plain))
+    };
+    row(&name("best", ""), ladders(baseline::best_with_ladder));
+    row(&name("best", ", against copies"), ladders(baseline::best_by_copies));
 }
 
 /// Rows that need about `s` tracks at offset 0, drawn and checked at exactly `s`.
 fn route(n: usize, s: usize) {
+    let name = |call: &str| format!("{call}, {n} pairs by {s} tracks");
     let a: Vec<i32> = (0..n as i32).map(|i| 3 * i).collect();
     let shift = 2 * s as i32 - 7;
     let b: Vec<i32> = a.iter().map(|x| x + shift.max(0)).collect();
@@ -33,12 +41,21 @@ fn route(n: usize, s: usize) {
     let mut ours = vec![0i32; n * (s + 1)];
     let mut plain = ours.clone();
     assert_eq!(obrastyn::draw_all(x, y, s, 0, &mut ours).refusal, 0);
-    row(&format!("draw all, {n} pairs by {s} tracks"), race(|| obrastyn::draw_all(black_box(x), black_box(y), s, 0, &mut ours), || baseline::draw_all(black_box(x), black_box(y), s, 0, &mut plain)));
+    let drawn = race(
+        || obrastyn::draw_all(black_box(x), black_box(y), s, 0, &mut ours),
+        || baseline::draw_all(black_box(x), black_box(y), s, 0, &mut plain),
+    );
+    row(&name("draw all"), drawn);
     assert_eq!(ours, plain);
     let (mut one, mut other) = (vec![0i32; s + 1], vec![0i32; s + 1]);
-    row(&format!("draw a wire, {n} pairs by {s} tracks"), race(|| obrastyn::draw_wire(black_box(x), black_box(y), s, 0, n / 2, &mut one), || baseline::draw_wire(black_box(x), black_box(y), s, 0, n / 2, &mut other)));
+    let wire = race(
+        || obrastyn::draw_wire(black_box(x), black_box(y), s, 0, n / 2, &mut one),
+        || baseline::draw_wire(black_box(x), black_box(y), s, 0, n / 2, &mut other),
+    );
+    row(&name("draw a wire"), wire);
     assert_eq!(one, other);
-    row(&format!("check, {n} pairs by {s} tracks"), race(|| obrastyn::check(black_box(x), black_box(y), s, 0, &ours), || baseline::check(black_box(x), black_box(y), s, 0, &plain)));
+    let checked = race(|| obrastyn::check(black_box(x), black_box(y), s, 0, &ours), || baseline::check(black_box(x), black_box(y), s, 0, &plain));
+    row(&name("check"), checked);
 }
 
 fn whole_form(tight: bool) {
@@ -48,7 +65,8 @@ fn whole_form(tight: bool) {
     let record = |k: usize| Record { bottom_start: 2048 * k, top_start: 2048 * k, count: 2048, wish: wish(), answer: Default::default() };
     let mut plain: Vec<Record> = (0..64).map(record).collect();
     let (x, y, kind) = (&a[..], &b[..], kind(tight));
-    row(&format!("form, 64 lines of 2048 pairs, {kind}"), race(|| obrastyn::answer_all(black_box(&mut ours), x, y), || baseline::answer_form(black_box(&mut plain), x, y)));
+    let answered = race(|| obrastyn::answer_all(black_box(&mut ours), x, y), || baseline::answer_form(black_box(&mut plain), x, y));
+    row(&format!("form, 64 lines of 2048 pairs, {kind}"), answered);
 }
 
 fn main() {

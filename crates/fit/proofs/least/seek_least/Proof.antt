@@ -80,7 +80,8 @@ found c =
     let e = toZ-ofZ w32 (s .args .d) (s .fits .d) in
     let v = rw e at (k .loop .inv) in
     let none = sym (rw e at (m .misfit-from .ensures)) ∙ f .enum-told .given .1 in
-    seek-tracks (s .args .a .now) (s .args .b .now) (s .args .d) (s .pre) _ _ _ v (c .tracks-for .result) (c .tracks-for .ensures) none (pos-of-ne-zero (c .before .if1 .left))
+    let some = pos-of-ne-zero (c .before .if1 .left) in
+    seek-tracks (s .args .a .now) (s .args .b .now) (s .args .d) (s .pre) _ _ _ v (c .tracks-for .result) (c .tracks-for .ensures) none some
 
 returns-2 : tie.Need-returns-2 Inv-loop μ-loop
 returns-2 c = subst (Answer (c .before)) (ap sideOf (c .if2 .taken)) (found (c .before))
@@ -97,7 +98,8 @@ add-s c =
     let s = k .before in
     let e = toZ-ofZ w32 (s .args .d) (s .fits .d) in
     let v = rw e at (k .loop .inv) in
-    let n = seek-next (s .args .a .now) (s .args .b .now) (s .args .d) (s .pre) _ _ _ v _ _ (sym (rw e at (c .before .before .before .misfit-from .ensures)) ∙ c .before .j .given .1) in
+    let there = sym (rw e at (c .before .before .before .misfit-from .ensures)) ∙ c .before .j .given .1 in
+    let n = seek-next (s .args .a .now) (s .args .b .now) (s .args .d) (s .pre) _ _ _ v _ _ there in
     record { fits = omega (arith, n .0, s .pre .rows .few) }
 
 is-right-requires : tie.Need-is-right-requires Inv-loop μ-loop
@@ -110,7 +112,8 @@ loop-less c =
     let s = k .before in
     let e = toZ-ofZ w32 (s .args .d) (s .fits .d) in
     let v = rw e at (k .loop .inv) in
-    let n = seek-next (s .args .a .now) (s .args .b .now) (s .args .d) (s .pre) _ _ _ v _ _ (sym (rw e at (at-misfit-from .misfit-from .ensures)) ∙ c .before .before .j .given .1) in
+    let there = sym (rw e at (at-misfit-from .misfit-from .ensures)) ∙ c .before .before .j .given .1 in
+    let n = seek-next (s .args .a .now) (s .args .b .now) (s .args .d) (s .pre) _ _ _ v _ _ there in
     omega (arith, n .0)
 
 loop-again : tie.Need-loop-again Inv-loop μ-loop
@@ -120,7 +123,8 @@ loop-again c =
     let s = k .before in
     let e = toZ-ofZ w32 (s .args .d) (s .fits .d) in
     let v = rw e at (k .loop .inv) in
-    let n = seek-next (s .args .a .now) (s .args .b .now) (s .args .d) (s .pre) _ _ _ v _ _ (sym (rw e at (at-misfit-from .misfit-from .ensures)) ∙ c .before .before .j .given .1) in
+    let there = sym (rw e at (at-misfit-from .misfit-from .ensures)) ∙ c .before .before .j .given .1 in
+    let n = seek-next (s .args .a .now) (s .args .b .now) (s .args .d) (s .pre) _ _ _ v _ _ there in
     rw (e, c .is-right .ensures) (n .1)
 
 pub seek-least-spec : {M : Type 1} → statement M

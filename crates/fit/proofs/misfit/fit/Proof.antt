@@ -48,7 +48,8 @@ returns-2 c =
     let t = m .before .before in
     let k = t .before .before in
     let e = toZ-ofZ w32 (k .before .args .d) (k .before .fits .d) in
-    fit-found _ _ _ _ _ (sym (rw e at (k .check-asked .ensures .answer)) ∙ t .enum-told .given .1) (sym (c .enum-told2 .given .1) ∙ rw (e, m .before .rule-at .ensures) at (m .first-misfit .ensures))
+    let asked = sym (rw e at (k .check-asked .ensures .answer)) ∙ t .enum-told .given .1 in
+    fit-found _ _ _ _ _ asked (sym (c .enum-told2 .given .1) ∙ rw (e, m .before .rule-at .ensures) at (m .first-misfit .ensures))
 
 returns-3 : tie.Need-returns-3
 returns-3 c =
@@ -56,7 +57,8 @@ returns-3 c =
     let t = m .before .before in
     let k = t .before .before in
     let e = toZ-ofZ w32 (k .before .args .d) (k .before .fits .d) in
-    fit-found _ _ _ _ _ (sym (rw e at (k .check-asked .ensures .answer)) ∙ t .enum-told .given .1) (sym (c .before .i .given .1) ∙ rw (e, m .before .rule-at .ensures) at (m .first-misfit .ensures))
+    let asked = sym (rw e at (k .check-asked .ensures .answer)) ∙ t .enum-told .given .1 in
+    fit-found _ _ _ _ _ asked (sym (c .before .i .given .1) ∙ rw (e, m .before .rule-at .ensures) at (m .first-misfit .ensures))
 
 pub fit-spec : {M : Type 1} → statement M
 fit-spec =
