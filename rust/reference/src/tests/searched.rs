@@ -38,87 +38,105 @@ fn small_row(random: &mut Random, n: usize, first: i32, last: i32) -> Vec<i32> {
     }
 }
 
-#[test]
-fn every_smallest_jumper() {
-    let (mut fitting, mut misfits) = (0, 0);
+/// Every pair of rows of one to three columns from `first` to `last`.
+fn all_jumpers(first: i32, last: i32) -> Vec<(Vec<i32>, Vec<i32>)> {
+    let mut found = Vec::new();
     for n in 1..=3 {
-        for a in all_rows(n, -2, 2) {
-            for b in all_rows(n, -2, 2) {
-                for s in 0..=4 {
-                    for d in -4..=4 {
-                        let fits = fit(&a, &b, s, d).refusal == 0;
-                        assert_eq!(
-                            fits,
-                            exists_wiring(&a, &b, s, d),
-                            "{a:?} {b:?} at ({s}, {d})"
-                        );
-                        *(if fits { &mut fitting } else { &mut misfits }) += 1;
-                    }
-                }
+        for a in all_rows(n, first, last) {
+            for b in all_rows(n, first, last) {
+                found.push((a.clone(), b));
             }
         }
     }
-    assert!(fitting > 1_000 && misfits > 1_000);
+    found
+}
+
+/// How many questions had a wiring and how many had none, so that a test can say it saw both.
+#[derive(Default)]
+struct Seen {
+    fitting: usize,
+    misfits: usize,
+}
+
+impl Seen {
+    fn note(&mut self, fits: bool) {
+        *(if fits {
+            &mut self.fitting
+        } else {
+            &mut self.misfits
+        }) += 1;
+    }
+
+    fn enough(&self, fitting: usize, misfits: usize) {
+        assert!(self.fitting > fitting && self.misfits > misfits);
+    }
+}
+
+#[test]
+fn every_smallest_jumper() {
+    let mut seen = Seen::default();
+    for (a, b) in all_jumpers(-2, 2) {
+        for s in 0..=4 {
+            for d in -4..=4 {
+                let fits = fit(&a, &b, s, d).refusal == 0;
+                let found = exists_wiring(&a, &b, s, d);
+                assert_eq!(fits, found, "{a:?} {b:?} at ({s}, {d})");
+                seen.note(fits);
+            }
+        }
+    }
+    seen.enough(1_000, 1_000);
 }
 
 /// The same by backtracking, which lays one wire after the other, on fewer columns.
 #[test]
 fn every_smallest_jumper_by_backtracking() {
-    let (mut fitting, mut misfits) = (0, 0);
-    for n in 1..=3 {
-        for a in all_rows(n, -1, 2) {
-            for b in all_rows(n, -1, 2) {
-                for s in 0..=4 {
-                    for d in -2..=2 {
-                        let found = find_wiring(&a, &b, s, d);
-                        let fits = fit(&a, &b, s, d).refusal == 0;
-                        assert_eq!(fits, found.is_some(), "{a:?} {b:?} at ({s}, {d})");
-                        if let Some(wires) = found {
-                            assert!(legal_wires(&a, &b, s, d, &wires));
-                        }
-                        *(if fits { &mut fitting } else { &mut misfits }) += 1;
-                    }
+    let mut seen = Seen::default();
+    for (a, b) in all_jumpers(-1, 2) {
+        for s in 0..=4 {
+            for d in -2..=2 {
+                let found = find_wiring(&a, &b, s, d);
+                let fits = fit(&a, &b, s, d).refusal == 0;
+                assert_eq!(fits, found.is_some(), "{a:?} {b:?} at ({s}, {d})");
+                if let Some(wires) = found {
+                    assert!(legal_wires(&a, &b, s, d, &wires));
                 }
+                seen.note(fits);
             }
         }
     }
-    assert!(fitting > 500 && misfits > 500, "{fitting} {misfits}");
+    seen.enough(500, 500);
 }
 
 /// At separation 0 a wire is one point, at 1 two, one above the other: straight either way.
 #[test]
 fn separations_0_and_1_have_wirings_alike() {
-    let (mut fitting, mut misfits) = (0, 0);
-    for n in 1..=3 {
-        for a in all_rows(n, -2, 2) {
-            for b in all_rows(n, -2, 2) {
-                for d in -4..=4 {
-                    let [at_0, at_1] = [0, 1].map(|s| exists_wiring(&a, &b, s, d));
-                    let [found_0, found_1] = [0, 1].map(|s| find_wiring(&a, &b, s, d).is_some());
-                    assert!(at_0 == at_1 && at_0 == found_0 && at_0 == found_1);
-                    *(if at_0 { &mut fitting } else { &mut misfits }) += 1;
-                }
-            }
+    let mut seen = Seen::default();
+    for (a, b) in all_jumpers(-2, 2) {
+        for d in -4..=4 {
+            let [at_0, at_1] = [0, 1].map(|s| exists_wiring(&a, &b, s, d));
+            let [found_0, found_1] = [0, 1].map(|s| find_wiring(&a, &b, s, d).is_some());
+            assert!(at_0 == at_1 && at_0 == found_0 && at_0 == found_1);
+            seen.note(at_0);
         }
     }
-    assert!(fitting > 50 && misfits > 1_000, "{fitting} {misfits}");
+    seen.enough(50, 1_000);
 }
 
-/// Every offset has a wiring at n + 1, and for every n some rows and offset have none at n.
+/// Every offset has a wiring at n + 1; at n far offsets have none, whatever the rows, and for some
+/// rows even offset 0 has none.
 #[test]
 fn every_offset_has_a_wiring_only_above_n() {
-    for n in 1..=3 {
-        for a in all_rows(n, -1, 2) {
-            for b in all_rows(n, -1, 2) {
-                for d in [-7, -3, -1, 0, 1, 3, 7] {
-                    assert!(exists_wiring(&a, &b, n + 1, d), "{a:?} {b:?} at {d}");
-                }
-                // Far out, no wire of these rows can come round at n tracks.
-                for d in [-7, 7] {
-                    assert!(!exists_wiring(&a, &b, n, d), "{a:?} {b:?} at {d}");
-                }
-            }
+    for (a, b) in all_jumpers(-1, 2) {
+        let n = a.len();
+        for d in [-7, -3, -1, 0, 1, 3, 7] {
+            assert!(exists_wiring(&a, &b, n + 1, d), "{a:?} {b:?} at {d}");
         }
+        for d in [-7, 7] {
+            assert!(!exists_wiring(&a, &b, n, d), "{a:?} {b:?} at {d}");
+        }
+    }
+    for n in 1..=3 {
         let (a, b) = stairs(n);
         assert!(!exists_wiring(&a, &b, n, 0));
     }
