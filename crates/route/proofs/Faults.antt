@@ -20,7 +20,8 @@ use Rattle.jumper.specs.declared.refusal.Refusal.{Refusal}
 use Rattle.jumper.specs.declared.refusal.Refusal.the-variants.{BadWire}
 use Rattle.jumper.specs.declared.rows.Checked.{Checked}
 use Rattle.jumper.specs.declared.rows.Checked.the-variants.{Accepted, Refused}
-use Rattle.route.specs.Check.{rightmost, leftmost, WrongStart, WrongEnd, StepsAside, Touching, Fault, NoFault, FirstFault, startWrong, endWrong, stepsAside, runTouches, faultAt, wireFault, trackFault}
+use Rattle.route.specs.Check.{rightmost, leftmost, WrongStart, WrongEnd, StepsAside, Touching, Fault, NoFault, FirstFault}
+use Rattle.route.specs.Check.{startWrong, endWrong, stepsAside, runTouches, faultAt, wireFault, trackFault}
 
 -- WHAT A TEST TELLS
 pub record Tells (t : Bool) (P : Type 0) : Type 0 where
@@ -182,7 +183,8 @@ unfolding wireFault
 wire-said wrong t zero i = inl (refl, λ j l m. absurd (omega arith))
 wire-said wrong t (suc k) i = go (wrong i) refl (wire-said wrong t k (suc i))
   where
-    go : (x : Bool) → wrong i ≡ x → WireSaid wrong t (suc i) k (wireFault wrong t (suc i) k) → WireSaid wrong t i (suc k) (pick x (Refused (BadWire i t)) (wireFault wrong t (suc i) k))
+    go : (x : Bool) → wrong i ≡ x → WireSaid wrong t (suc i) k (wireFault wrong t (suc i) k)
+        → WireSaid wrong t i (suc k) (pick x (Refused (BadWire i t)) (wireFault wrong t (suc i) k))
     go true e r = inr (i, refl, omega arith, e, λ l m o. absurd (omega arith))
     go false e (inl r) = inl (r .0, λ j l m. ⊎-elim (λ g. rw (← g) e) (λ g. r .1 j g (omega arith)) (eq-or-lt-of-le l))
     go false e (inr r) = inr (r .0, r .1, omega (arith, r .2), r .3, λ j l m. ⊎-elim (λ g. rw (← g) e) (λ g. r .4 j g m) (eq-or-lt-of-le l))
@@ -210,14 +212,36 @@ track-said wrong n (suc k) t = go (wireFault (wrong t) t 0 n) (wire-said (wrong 
     go : (x : Checked) → WireSaid (wrong t) t 0 n x → TrackSaid wrong n (suc t) k rest → TrackSaid wrong n t (suc k) (orElse x rest)
     go x (inr w) r =
         let e : x ≡ Refused (BadWire (w .0) t) = w .1 in
-        rw e (inr (w .0, t, record { answer = refl; inside = omega (arith, w .2); here = w .3; wires = λ l m. w .4 l (omega arith) m; tracks = λ v l m o q. absurd (omega arith) }))
+        rw e
+        (inr (
+          w .0,
+          t,
+          record {
+            answer = refl;
+            inside = omega (arith, w .2);
+            here = w .3;
+            wires = λ l m. w .4 l (omega arith) m;
+            tracks = λ v l m o q. absurd (omega arith);
+          },
+        ))
     go x (inl w) (inl r) =
         let e : x ≡ Accepted = w .0 in
         rw e (inl (r .0, λ u j l m q. ⊎-elim (λ g. rw (← g) (w .1 j (omega arith) (omega arith))) (λ g. r .1 u j g (omega arith) q) (eq-or-lt-of-le l)))
     go x (inl w) (inr r) =
         let e : x ≡ Accepted = w .0 in
         let f = r .2 in
-        rw e (inr (r .0, r .1, record { answer = f .answer; inside = (f .inside .0, omega (arith, f .inside), omega (arith, f .inside)); here = f .here; wires = f .wires; tracks = λ v l m o q. ⊎-elim (λ g. rw (← g) (w .1 l (omega arith) (omega arith))) (λ g. f .tracks v l g o q) (eq-or-lt-of-le m) }))
+        rw e
+        (inr (
+          r .0,
+          r .1,
+          record {
+            answer = f .answer;
+            inside = (f .inside .0, omega (arith, f .inside), omega (arith, f .inside));
+            here = f .here;
+            wires = f .wires;
+            tracks = λ v l m o q. ⊎-elim (λ g. rw (← g) (w .1 l (omega arith) (omega arith))) (λ g. f .tracks v l g o q) (eq-or-lt-of-le m);
+          },
+        ))
 
 -- THE FIRST FAULT, or none
 module _ (n s : ℕ) (a c : ℕ → ℤ) (e : ℕ → ℕ → ℤ) where
@@ -230,11 +254,23 @@ module _ (n s : ℕ) (a c : ℕ → ℤ) (e : ℕ → ℕ → ℤ) where
   pub searched : ((search ≡ Accepted) × NoFault n s a c e) ⊎ ((i : ℕ) × (t : ℕ) × (search ≡ Refused (BadWire i t)) × FirstFault n s a c e i t)
   searched = go (track-said (faultAt n s a c e) n (s + 1) 0)
     where
-      go : TrackSaid (faultAt n s a c e) n 0 (s + 1) search → ((search ≡ Accepted) × NoFault n s a c e) ⊎ ((i : ℕ) × (t : ℕ) × (search ≡ Refused (BadWire i t)) × FirstFault n s a c e i t)
+      go : TrackSaid (faultAt n s a c e) n 0 (s + 1) search
+          → ((search ≡ Accepted) × NoFault n s a c e) ⊎ ((i : ℕ) × (t : ℕ) × (search ≡ Refused (BadWire i t)) × FirstFault n s a c e i t)
       go (inl r) = inl (r .0, λ i m t l. clean t i (r .1 t i (omega arith) (omega arith) m))
       go (inr r) =
           let f = r .2 in
-          inr (r .0, r .1, f .answer, record { wire = f .inside .0; track = omega (arith, f .inside); fault = fault-tells n s a c e (r .1) (r .0) .yes (f .here); tracks = λ u j l m. clean u j (f .tracks u j (omega arith) l m); wires = λ j l. clean (r .1) j (f .wires j l) })
+          inr (
+            r .0,
+            r .1,
+            f .answer,
+            record {
+              wire = f .inside .0;
+              track = omega (arith, f .inside);
+              fault = fault-tells n s a c e (r .1) (r .0) .yes (f .here);
+              tracks = λ u j l m. clean u j (f .tracks u j (omega arith) l m);
+              wires = λ j l. clean (r .1) j (f .wires j l);
+            },
+          )
 
   -- the search finds none exactly where there is none
   pub none-exactly : (search ≡ Accepted) ↔ NoFault n s a c e

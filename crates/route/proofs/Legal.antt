@@ -58,11 +58,14 @@ module _ (n s : ℕ) (a c : ℕ → ℤ) (e : ℕ → ℕ → ℤ) where
       starts = λ i h. same (e i 0) (a i) (λ k. f i h 0 (omega arith) (inl (refl, k)));
       ends = λ i h. same (e i s) (c i) (λ k. f i h s (omega arith) (inr (inl (refl, k))));
       rises = λ i h l. same (e i 1) (e i 0) (λ k. f i h 0 (omega arith) (inr (inr (inl (refl, l, k)))));
-      runs = λ t i h k. ⊎-elim (λ l. absurd (f i (omega arith) t (omega arith) (inr (inr (inr (record { track = h; wire = k; touches = l })))))) (λ l. l) (≤-or-< (leftmost e (suc i) t) (rightmost e i t));
+      runs = λ t i h k. ⊎-elim (λ l. absurd (untouched f t i h k l)) (λ l. l) (≤-or-< (leftmost e (suc i) t) (rightmost e i t));
     }),
     (λ o i h. clear i h o),
   )
     where
+      untouched : NoFault n s a c e → (t i : ℕ) → t < s → suc i < n → leftmost e (suc i) t ≤ℤ rightmost e i t → ⊥
+      untouched f t i h k l = f i (omega arith) t (omega arith) (inr (inr (inr (record { track = h; wire = k; touches = l }))))
+
       clear : (i : ℕ) → i < n → InOrder n s a c e → WireClear n s a c e i
       clear i h o t l (inl f) = f .1 (o .starts i h)
       clear i h o t l (inr (inl f)) = f .1 (o .ends i h)

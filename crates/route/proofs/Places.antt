@@ -51,24 +51,34 @@ place-in n s i t l m = let p : suc i * (s + 1) ≤ n * (s + 1) = mul-le-mul-righ
 pub wires-at : (e : ℕ → ℕ → ℤ) (s n i t : ℕ) (rest : List ℤ) → i < n → t ≤ s → columnIn (wires e s n ++ rest) s i t ≡ e i t
 unfolding wires columnIn
 wires-at e s zero i t rest h l = absurd (omega arith)
-wires-at e s (suc n) i t rest h l = rw (append-assoc (wires e s n) (columns (e n) (s + 1)) rest) (⊎-elim last (λ g. wires-at e s n i t (columns (e n) (s + 1) ++ rest) g l) (eq-or-lt-of-le (omega arith)))
+wires-at e s (suc n) i t rest h l =
+    rw (append-assoc (wires e s n) (columns (e n) (s + 1)) rest)
+    (⊎-elim last (λ g. wires-at e s n i t (columns (e n) (s + 1) ++ rest) g l) (eq-or-lt-of-le (omega arith)))
   where
     last : i ≡ n → getD (wires e s n ++ (columns (e n) (s + 1) ++ rest)) (i * (s + 1) + t) (pos 0) ≡ e i t
     last g =
         let p : i * (s + 1) + t ≡ length (wires e s n) + t = rw g (omega (arith, wires-length e s n)) in
-        rw p (getD-append-add (wires e s n) (columns (e n) (s + 1) ++ rest) t (pos 0) ∙ columns-at (e n) (s + 1) t rest (omega arith) ∙ ap (λ (j : ℕ). e j t) (sym g))
+        rw p
+        (getD-append-add (wires e s n) (columns (e n) (s + 1) ++ rest) t (pos 0)
+        ∙ columns-at (e n) (s + 1) t rest (omega arith)
+        ∙ ap (λ (j : ℕ). e j t) (sym g))
 
 -- the part of the table that is wire i's
 pub wires-part : (e : ℕ → ℕ → ℤ) (s n i : ℕ) (rest : List ℤ) → i < n → take (s + 1) (drop (i * (s + 1)) (wires e s n ++ rest)) ≡ columns (e i) (s + 1)
 unfolding wires
 wires-part e s zero i rest h = absurd (omega arith)
-wires-part e s (suc n) i rest h = rw (append-assoc (wires e s n) (columns (e n) (s + 1)) rest) (⊎-elim last (wires-part e s n i (columns (e n) (s + 1) ++ rest)) (eq-or-lt-of-le (omega arith)))
+wires-part e s (suc n) i rest h =
+    rw (append-assoc (wires e s n) (columns (e n) (s + 1)) rest)
+    (⊎-elim last (wires-part e s n i (columns (e n) (s + 1) ++ rest)) (eq-or-lt-of-le (omega arith)))
   where
     last : i ≡ n → take (s + 1) (drop (i * (s + 1)) (wires e s n ++ (columns (e n) (s + 1) ++ rest))) ≡ columns (e i) (s + 1)
-    last g = rw (g, drop-at (wires e s n) (columns (e n) (s + 1) ++ rest) (n * (s + 1)) (wires-length e s n)) (take-at (columns (e n) (s + 1)) rest (s + 1) (columns-length (e n) (s + 1)))
+    last g =
+        rw (g, drop-at (wires e s n) (columns (e n) (s + 1) ++ rest) (n * (s + 1)) (wires-length e s n))
+        (take-at (columns (e n) (s + 1)) rest (s + 1) (columns-length (e n) (s + 1)))
 
 -- A BUFFER AS THE LOOPS LEAVE IT. The first t columns stand in what was out₀
-pub begun-next : (e : ℕ → ℤ) (out₀ out : List ℤ) (t : ℕ) (x : ℤ) → t < length out₀ → x ≡ e t → out ≡ columns e t ++ drop t out₀ → set out t x ≡ columns e (t + 1) ++ drop (t + 1) out₀
+pub begun-next : (e : ℕ → ℤ) (out₀ out : List ℤ) (t : ℕ) (x : ℤ) → t < length out₀ → x ≡ e t
+    → out ≡ columns e t ++ drop t out₀ → set out t x ≡ columns e (t + 1) ++ drop (t + 1) out₀
 unfolding columns
 begun-next e out₀ out t x h g l =
     rw (l, drop-cons out₀ t (pos 0) h, set-at (columns e t) (getD out₀ t (pos 0)) (drop (suc t) out₀) x t (columns-length e t), add-one t, append-assoc, g)
@@ -92,15 +102,18 @@ module _ (p : List ℤ) (at : ℕ) (out₀ out : List ℤ) (here : length p ≡ 
   put-next q k ys e =
       let f : take at out ≡ p = rw was (take-at p (drop at out₀) at here) in
       let g : drop at out ≡ drop at out₀ = rw was (drop-at p (drop at out₀) at here) in
-      let z : drop (length out - at) (drop at out) ≡ [] = rw (g, put-same) (drop-of-length-le (drop at out₀) {i = length out₀ - at} (omega (arith, length-drop at out₀))) in
+      let past : length (drop at out₀) ≤ length out₀ - at = omega (arith, length-drop at out₀) in
+      let z : drop (length out - at) (drop at out) ≡ [] = rw (g, put-same) (drop-of-length-le (drop at out₀) {i = length out₀ - at} past) in
       rw (z, e, lent, f, append-nil, drop-drop k at out₀, append-assoc)
 
 -- a wire of which m columns were drawn, and the rest, up to k, on column c
-pub straight-on : (e : ℕ → ℤ) (c : ℤ) (m k : ℕ) (out₀ out ys : List ℤ) → m ≤ k → k ≤ length out₀ → ((t : ℕ) → m ≤ t → t < k → e t ≡ c) → out ≡ columns e m ++ drop m out₀
+pub straight-on : (e : ℕ → ℤ) (c : ℤ) (m k : ℕ) (out₀ out ys : List ℤ) → m ≤ k → k ≤ length out₀
+    → ((t : ℕ) → m ≤ t → t < k → e t ≡ c) → out ≡ columns e m ++ drop m out₀
     → ys ≡ columns (λ t. c) (k - m) ++ drop (k - m) (take (length out - m) (drop m out)) → put m out ys ≡ columns e k ++ drop k out₀
 straight-on e c m k out₀ out ys le room free was g =
     let w : m + (k - m) ≡ k = omega arith in
-    let f : columns (λ t. e (m + t)) (k - m) ≡ columns (λ t. c) (k - m) = columns-same (λ t. e (m + t)) (λ t. c) (k - m) (λ t h. free (m + t) (omega arith) (omega arith)) in
+    let rest : (t : ℕ) → t < k - m → e (m + t) ≡ c = λ t h. free (m + t) (omega arith) (omega arith) in
+    let f : columns (λ t. e (m + t)) (k - m) ≡ columns (λ t. c) (k - m) = columns-same (λ t. e (m + t)) (λ t. c) (k - m) rest in
     let h : columns e k ≡ columns e m ++ columns (λ t. c) (k - m) = ap (columns e) (sym w) ∙ columns-more e m (k - m) ∙ rw f in
     put-next (columns e m) m out₀ out (columns-length e m) (omega arith) was (columns (λ t. c) (k - m)) (k - m) ys g ∙ rw (w, h)
 
@@ -128,11 +141,13 @@ module _ (e : ℕ → ℕ → ℤ) (s n : ℕ) (out₀ : List ℤ) where
     pub drawn-part : s < length (take (length out - at) (drop at out))
     drawn-part = omega (arith, drawn-room, lent-length (wires e s i) at out₀ out here (omega (arith, drawn-room)) (r .begun))
 
-    pub drawn-next : (ys : List ℤ) → ys ≡ columns (e i) (s + 1) ++ drop (s + 1) (take (length out - at) (drop at out)) → Drawn e s n out₀ (i + 1) (at + (s + 1)) (put at out ys)
+    pub drawn-next : (ys : List ℤ) → ys ≡ columns (e i) (s + 1) ++ drop (s + 1) (take (length out - at) (drop at out))
+        → Drawn e s n out₀ (i + 1) (at + (s + 1)) (put at out ys)
     unfolding wires
     drawn-next ys g =
         let f = put-next (wires e s i) at out₀ out here (omega (arith, drawn-room)) (r .begun) (columns (e i) (s + 1)) (s + 1) ys g in
-        let l : length (wires e s i ++ columns (e i) (s + 1)) ≡ at + (s + 1) = length-append (wires e s i) (columns (e i) (s + 1)) ∙ omega (arith, here, columns-length (e i) (s + 1)) in
+        let both = length-append (wires e s i) (columns (e i) (s + 1)) in
+        let l : length (wires e s i ++ columns (e i) (s + 1)) ≡ at + (s + 1) = both ∙ omega (arith, here, columns-length (e i) (s + 1)) in
         record {
           place = rw (add-one i) (omega (arith, r .place, suc-mul i (s + 1)));
           same = put-same (wires e s i ++ columns (e i) (s + 1)) (at + (s + 1)) out₀ (put at out ys) l drawn-room f;

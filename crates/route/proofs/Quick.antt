@@ -34,7 +34,8 @@ added x y = go (ltZ x y) refl
     go true e = record { few = omega arith; none = λ z. true-lt x y e; some = λ z. refl }
     go false e = record { few = omega arith; none = λ z. absurd (omega arith); some = λ z. absurd (omega (arithℤ, false-lt x y e)) }
 
-pub four : (p p′ q q′ : ℤ) (k : ℕ) → k ≡ cond (ltZ p q) 0 1 + cond (ltZ p q′) 0 1 + cond (ltZ p′ q) 0 1 + cond (ltZ p′ q′) 0 1 → (k ≤ 4) × ((k ≡ 0) ↔ (largerOf p p′ <ℤ smallerOf q q′))
+pub four : (p p′ q q′ : ℤ) (k : ℕ) → k ≡ cond (ltZ p q) 0 1 + cond (ltZ p q′) 0 1 + cond (ltZ p′ q) 0 1 + cond (ltZ p′ q′) 0 1
+    → (k ≤ 4) × ((k ≡ 0) ↔ (largerOf p p′ <ℤ smallerOf q q′))
 four p p′ q q′ k e =
     let a = added p q in
     let b = added p q′ in
@@ -63,7 +64,8 @@ four p p′ q q′ k e =
 pub runs-none : (p q : ℕ → ℤ) → RunsApart p q 0
 runs-none p q t h = absurd (omega arith)
 
-pub runs-more : (p q : ℕ → ℤ) (t m k : ℕ) → (m ≡ 0) ↔ RunsApart p q t → (k ≡ 0) ↔ (largerOf (p t) (p (t + 1)) <ℤ smallerOf (q t) (q (t + 1))) → (m + k ≡ 0) ↔ RunsApart p q (t + 1)
+pub runs-more : (p q : ℕ → ℤ) (t m k : ℕ) → (m ≡ 0) ↔ RunsApart p q t
+    → (k ≡ 0) ↔ (largerOf (p t) (p (t + 1)) <ℤ smallerOf (q t) (q (t + 1))) → (m + k ≡ 0) ↔ RunsApart p q (t + 1)
 runs-more p q t m k f g = (
   (λ z u h. let le : u ≤ t = omega arith in ⊎-elim (λ e. rw e (rw (add-one t) at (g .0 (omega arith)))) (f .0 (omega arith) u) (eq-or-lt-of-le le)),
   (λ r.
@@ -81,18 +83,23 @@ pub runs-same : (p p′ q q′ : ℕ → ℤ) (s : ℕ) → ((t : ℕ) → p t �
 runs-same p p′ q q′ s f g r t h = rw (← f t, ← f (suc t), ← g t, ← g (suc t)) (r t h)
 
 -- the table's runs, as two parts of it have them
-pub rows-apart : (table : List ℤ) (s i at next : ℕ) → at ≡ i * (s + 1) → next ≡ at + s + 1 → RunsApart (pad (take (length table - at) (drop at table))) (pad (take (length table - next) (drop next table))) s ↔ RunsApart (columnIn table s i) (columnIn table s (suc i)) s
+pub rows-apart : (table : List ℤ) (s i at next : ℕ) → at ≡ i * (s + 1) → next ≡ at + s + 1
+    → RunsApart (pad (take (length table - at) (drop at table))) (pad (take (length table - next) (drop next table))) s
+    ↔ RunsApart (columnIn table s i) (columnIn table s (suc i)) s
 rows-apart table s i at next e f =
     let g : next ≡ suc i * (s + 1) = omega (arith, suc-mul i (s + 1)) in
-    let p : (t : ℕ) → pad (take (length table - at) (drop at table)) t ≡ columnIn table s i t = λ t. row-from table s i at t e in
-    let q : (t : ℕ) → pad (take (length table - next) (drop next table)) t ≡ columnIn table s (suc i) t = λ t. row-from table s (suc i) next t g in (
-      runs-same (pad (take (length table - at) (drop at table))) (columnIn table s i) (pad (take (length table - next) (drop next table))) (columnIn table s (suc i)) s p q,
-      runs-same (columnIn table s i) (pad (take (length table - at) (drop at table))) (columnIn table s (suc i)) (pad (take (length table - next) (drop next table))) s (λ t. sym (p t)) (λ t. sym (q t)),
+    let here : ℕ → ℤ = pad (take (length table - at) (drop at table)) in
+    let there : ℕ → ℤ = pad (take (length table - next) (drop next table)) in
+    let p : (t : ℕ) → here t ≡ columnIn table s i t = λ t. row-from table s i at t e in
+    let q : (t : ℕ) → there t ≡ columnIn table s (suc i) t = λ t. row-from table s (suc i) next t g in (
+      runs-same here (columnIn table s i) there (columnIn table s (suc i)) s p q,
+      runs-same (columnIn table s i) here (columnIn table s (suc i)) there s (λ t. sym (p t)) (λ t. sym (q t)),
     )
 
 -- A WIRE IS CLEAR when it starts and ends right, goes straight up from its pad, and its runs are to the left of the next wire's
 module _ (n s : ℕ) (a c : ℕ → ℤ) (e : ℕ → ℕ → ℤ) (i : ℕ) where
-  pub clear-of : startWrong a e 0 i ≡ false → endWrong s c e s i ≡ false → stepsAside s e 0 i ≡ false → (suc i < n → RunsApart (e i) (e (suc i)) s) → WireClear n s a c e i
+  pub clear-of : startWrong a e 0 i ≡ false → endWrong s c e s i ≡ false → stepsAside s e 0 i ≡ false
+      → (suc i < n → RunsApart (e i) (e (suc i)) s) → WireClear n s a c e i
   clear-of f g q r t h (inl x) = start-tells a e 0 i .no f (refl, x .1)
   clear-of f g q r t h (inr (inl x)) = end-tells s c e s i .no g (refl, x .1)
   clear-of f g q r t h (inr (inr (inl x))) = aside-tells s e 0 i .no q (refl, x .1, x .2)
@@ -108,9 +115,14 @@ module _ (n s : ℕ) (a c : ℕ → ℤ) (e : ℕ → ℕ → ℤ) (i : ℕ) whe
   aside-unclear f w = w 0 (omega arith) (inr (inr (inl (aside-tells s e 0 i .yes f))))
 
   pub clear-runs : suc i < n → WireClear n s a c e i → RunsApart (e i) (e (suc i)) s
-  clear-runs l w t h = ⊎-elim (λ x. absurd (w t (omega arith) (inr (inr (inr (record { track = h; wire = l; touches = x })))))) (λ x. x) (≤-or-< (leftmost e (suc i) t) (rightmost e i t))
+  clear-runs l w t h =
+      ⊎-elim
+      (λ x. absurd (w t (omega arith) (inr (inr (inr (record { track = h; wire = l; touches = x }))))))
+      (λ x. x)
+      (≤-or-< (leftmost e (suc i) t) (rightmost e i t))
 
-  pub clear-by : (k : ℕ) → startWrong a e 0 i ≡ false → endWrong s c e s i ≡ false → stepsAside s e 0 i ≡ false → suc i < n → (k ≡ 0) ↔ RunsApart (e i) (e (suc i)) s → (eqb k 0 ≡ true) ↔ WireClear n s a c e i
+  pub clear-by : (k : ℕ) → startWrong a e 0 i ≡ false → endWrong s c e s i ≡ false → stepsAside s e 0 i ≡ false
+      → suc i < n → (k ≡ 0) ↔ RunsApart (e i) (e (suc i)) s → (eqb k 0 ≡ true) ↔ WireClear n s a c e i
   clear-by k f g q l r = ((λ z. clear-of f g q (λ h. r .0 (eqb-true k 0 z))), (λ w. eq-eqb k 0 (r .1 (clear-runs l w))))
 
   pub clear-last : startWrong a e 0 i ≡ false → endWrong s c e s i ≡ false → stepsAside s e 0 i ≡ false → n ≤ suc i → (true ≡ true) ↔ WireClear n s a c e i

@@ -73,5 +73,7 @@ module _ (a b : List ℤ) (s : ℕ) (d : ℤ) (table other : List ℤ) (agree : 
 
   pub reads-only : routeChecked a b s d table ≡ routeChecked a b s d other
   reads-only =
-      let f = track-fault-same (faultAt (length a) s (pad a) (topPad b d) (columnIn table s)) (faultAt (length a) s (pad a) (topPad b d) (columnIn other s)) (length a) 0 (s + 1) (λ t i l. fault-same (length a) s (pad a) (topPad b d) (columnIn table s) (columnIn other s) columns-agree t i l) in
+      let faults = faultAt (length a) s (pad a) (topPad b d) in
+      let same = fault-same (length a) s (pad a) (topPad b d) (columnIn table s) (columnIn other s) columns-agree in
+      let f = track-fault-same (faults (columnIn table s)) (faults (columnIn other s)) (length a) 0 (s + 1) same in
       rw (room-same, f)

@@ -7,7 +7,7 @@ use Prim.Native.Nat.{ℕ, zero, suc, _+_, _-_, _<_, _≤_}
 use native.Mathlib.Omega.{arith}
 use lib.Dec.{ltb, leb}
 use lib.ListN.{length, take}
-use lib.IntN.{ℤ, pos}
+use lib.IntN.{ℤ, pos, _+ℤ_, _-ℤ_}
 use lib.Signed.{_≤ℤ_, ltZ}
 use borrow.Author.Tests.{lt-ltb, le-ltb, ltb-true, ltb-false, leb-true, leb-false, eq-eqb, ne-eqb}
 use Rattle.whole.specs.Pick.{differ}
@@ -51,15 +51,24 @@ differ-same x = let e : ltZ x x ≡ false = lt-false x x (omega arithℤ) in sim
 
 held : (n : ℕ) (a : ℕ → ℤ) → Rising n a → (c : ℤ) (i t u : ℕ) → i < n → t ≤ u → entry n a c i t ≡ c → entry n a c i u ≡ c
 held n a ra c i t u here le e =
-    let x = entry-clamped n a ra c i t here in
     let y = entry-clamped n a ra c i u here in
-    let low : entry n a c i u ≤ℤ c = ⊎-elim (λ p. p)
-    (λ p. omega (arithℤ, p .1, e, x .lower (omega (arith, p .0)), sum (a (i - u)) (pos u), sum (a (i - t)) (pos t), sum (a (i - u)) (pos (u - t)), spread ra (u - t) (i - u) (i - t) (omega (arith, p .0)) (omega arith)))
-    (y .below) in
-    let high : c ≤ℤ entry n a c i u = ⊎-elim (λ p. p)
-    (λ p. omega (arithℤ, p .1, e, x .upper (omega (arith, p .0)), dif (a (i + u)) (pos u), dif (a (i + t)) (pos t), sum (a (i + t)) (pos (u - t)), spread ra (u - t) (i + t) (i + u) (omega arith) (p .0)))
-    (y .above) in
+    let low : entry n a c i u ≤ℤ c = ⊎-elim (λ p. p) held-left (y .below) in
+    let high : c ≤ℤ entry n a c i u = ⊎-elim (λ p. p) held-right (y .above) in
     omega arithℤ
+  where
+    -- pad i - u holds it
+    held-left : (u ≤ i) × (entry n a c i u ≡ a (i - u) +ℤ pos u) → entry n a c i u ≤ℤ c
+    held-left p =
+        let x = entry-clamped n a ra c i t here in
+        let far = spread ra (u - t) (i - u) (i - t) (omega (arith, p .0)) (omega arith) in
+        omega (arithℤ, p .1, e, x .lower (omega (arith, p .0)), sum (a (i - u)) (pos u), sum (a (i - t)) (pos t), sum (a (i - u)) (pos (u - t)), far)
+
+    -- pad i + u holds it
+    held-right : (i + u < n) × (entry n a c i u ≡ a (i + u) -ℤ pos u) → c ≤ℤ entry n a c i u
+    held-right p =
+        let x = entry-clamped n a ra c i t here in
+        let far = spread ra (u - t) (i + t) (i + u) (omega arith) (p .0) in
+        omega (arithℤ, p .1, e, x .upper (omega (arith, p .0)), dif (a (i + u)) (pos u), dif (a (i + t)) (pos t), sum (a (i + t)) (pos (u - t)), far)
 
 stays : (n : ℕ) (a : ℕ → ℤ) → Rising n a → (c : ℤ) (i t u : ℕ) → i < n → t ≤ u → columnAt n a c i t ≡ c → columnAt n a c i u ≡ c
 stays n a ra c i t u here le = held n a ra c i (ruleAt t) (ruleAt u) here (rule-up t u le)
@@ -91,16 +100,25 @@ module _ (m : Move) (out : List ℕ) (at : ℕ) where
   track-full p out' k e =
       either (leb (at + length (moveLine m)) (length out))
       (λ q. let l = move-length m in let g = k .room (leb-true _ _ q) in absurd (omega (arith, g .0)))
-      (λ q. let l = move-length m in let f = leb-false _ _ q in let g = k .full f in record { wrote = (λ h. absurd (true≢false (sym h))); fits = (λ h. h); full = λ h. (refl, g .1, omega arith) })
+      (λ q.
+      let l = move-length m in
+      let f = leb-false _ _ q in
+      let g = k .full f in
+      record { wrote = (λ h. absurd (true≢false (sym h))); fits = (λ h. h); full = λ h. (refl, g .1, omega arith) })
 
-  pub track-put : (p : ℕ) (out' : List ℕ) → LinePut (moveLine m) out at p out' → (p ≡ at → ⊥) → differ (m .from) (m .to) ≡ true → TrackOut (moveText m) out at true p out'
+  pub track-put : (p : ℕ) (out' : List ℕ) → LinePut (moveLine m) out at p out' → (p ≡ at → ⊥) → differ (m .from) (m .to) ≡ true
+      → TrackOut (moveText m) out at true p out'
   unfolding moveText
   track-put p out' k n e =
       either (leb (at + length (moveLine m)) (length out))
       (λ q.
       let room : at + length (moveLine m) ≤ length out = leb-true _ _ q in
       let g = k .room room in
-      record { wrote = λ h. simp e (ap (λ (z : ℕ). take z out') (g .0) ∙ ap (take (at + length (moveLine m))) (g .1) ∙ take-puts out at (moveLine m) room); fits = (λ h. omega (arith, g .0)); full = λ h. absurd (true≢false h) })
+      record {
+        wrote = λ h. simp e (ap (λ (z : ℕ). take z out') (g .0) ∙ ap (take (at + length (moveLine m))) (g .1) ∙ take-puts out at (moveLine m) room);
+        fits = λ h. omega (arith, g .0);
+        full = λ h. absurd (true≢false h);
+      })
       (λ q. absurd (n (k .full (leb-false _ _ q) .0)))
 
 -- ---- one wire
@@ -143,7 +161,6 @@ pub route-more : (l s : ℕ) (d : ℤ) (a b : List ℤ) (i t t' : ℕ) (out out'
     → take p out ++ routeLeft l s d a b i t ≡ take q out' ++ routeLeft l s d a b (i + 1) 0
 unfolding routeLeft
 route-more l s d a b i t t' out out' p q h g w =
-    let e : ℕ → ℕ → ℤ = drawn (length a) (pad a) (topPad b d) in
     let R : List ℕ = wiresText l e s (i + 1) (length a - (i + 1)) in
     let none : wireText l e i t' (s - t') ≡ [] = wire-none l s e i t' g in
     simp (lt-ltb _ _ h)
@@ -151,11 +168,14 @@ route-more l s d a b i t t' out out' p q h g w =
     ∙ ap (λ (z : List ℕ). z ++ R) (w ∙ ap (λ (z : List ℕ). take q out' ++ z) none ∙ append-nil (take q out'))
     ∙ ap (λ (z : List ℕ). take q out' ++ z) (next (ltb (i + 1) (length a)) refl))
   where
+    e : ℕ → ℕ → ℤ
+    e = drawn (length a) (pad a) (topPad b d)
+
     next : (x : Bool) → ltb (i + 1) (length a) ≡ x
-        → wiresText l (drawn (length a) (pad a) (topPad b d)) s (i + 1) (length a - (i + 1))
-        ≡ cond x (wireText l (drawn (length a) (pad a) (topPad b d)) (i + 1) 0 (s - 0) ++ wiresText l (drawn (length a) (pad a) (topPad b d)) s (i + 1 + 1) (length a - (i + 1 + 1))) []
-    next true x = wires-more l s (drawn (length a) (pad a) (topPad b d)) (i + 1) (length a) (ltb-true _ _ x)
-    next false x = wires-none l s (drawn (length a) (pad a) (topPad b d)) (i + 1) (length a) (ltb-false _ _ x)
+        → wiresText l e s (i + 1) (length a - (i + 1))
+        ≡ cond x (wireText l e (i + 1) 0 (s - 0) ++ wiresText l e s (i + 1 + 1) (length a - (i + 1 + 1))) []
+    next true x = wires-more l s e (i + 1) (length a) (ltb-true _ _ x)
+    next false x = wires-none l s e (i + 1) (length a) (ltb-false _ _ x)
 
 -- no more wires
 pub route-end : (l s : ℕ) (d : ℤ) (a b : List ℤ) (i t : ℕ) → length a ≤ i → routeLeft l s d a b i t ≡ []
@@ -182,12 +202,14 @@ wire-step l s e i W out out' t p q x y h ex ey w g =
     let m : moveText (record { line = l; wire = i; track = t; from = x; to = y }) ≡ trackText l e i t = simp (ex, ey) in
     w ∙ wire-more l s e i out out' t p q h (g ∙ ap (λ (z : List ℕ). take p out ++ z) m)
 
-pub wire-still : (l s : ℕ) (n : ℕ) (a c : ℕ → ℤ) → Rising n a → (i : ℕ) (W out : List ℕ) (t p : ℕ) (x z : ℤ) → i < n → x ≡ drawn n a c i t → z ≡ c i → differ x z ≡ false
+pub wire-still : (l s : ℕ) (n : ℕ) (a c : ℕ → ℤ) → Rising n a → (i : ℕ) (W out : List ℕ) (t p : ℕ) (x z : ℤ) → i < n
+    → x ≡ drawn n a c i t → z ≡ c i → differ x z ≡ false
     → W ≡ take p out ++ wireText l (drawn n a c) i t (s - t) → W ≡ take p out ++ wireText l (drawn n a c) i s (s - s)
 wire-still l s n a c ra i W out t p x z here ex ez d w =
     w ∙ ap (λ (y : List ℕ). take p out ++ y) (wire-stays l s n a c ra i t here (sym ex ∙ differ-not x z d ∙ ez))
 
-pub wire-full : (l s : ℕ) (e : ℕ → ℕ → ℤ) (i : ℕ) (W out out' : List ℕ) (t p : ℕ) → out' ≡ out → W ≡ take p out ++ wireText l e i t (s - t) → W ≡ take p out' ++ wireText l e i t (s - t)
+pub wire-full : (l s : ℕ) (e : ℕ → ℕ → ℤ) (i : ℕ) (W out out' : List ℕ) (t p : ℕ) → out' ≡ out
+    → W ≡ take p out ++ wireText l e i t (s - t) → W ≡ take p out' ++ wireText l e i t (s - t)
 wire-full l s e i W out out' t p g w = w ∙ ap (λ (y : List ℕ). take p y ++ wireText l e i t (s - t)) (sym g)
 
 -- ---- rows that are accepted, and rows that are not
@@ -214,7 +236,8 @@ from-start l s d a b = go (length a) (drawn (length a) (pad a) (topPad b d))
     go (suc n) e =
         let p : s - 0 ≡ s = omega arith in
         let q : suc n - 1 ≡ n = omega arith in
-        simp (lt-ltb 0 (suc n) (omega arith)) (ap (λ (x : ℕ). wireText l e 0 0 x ++ wiresText l e s 1 (suc n - 1)) p ∙ ap (λ (x : ℕ). wireText l e 0 0 s ++ wiresText l e s 1 x) q)
+        simp (lt-ltb 0 (suc n) (omega arith))
+        (ap (λ (x : ℕ). wireText l e 0 0 x ++ wiresText l e s 1 (suc n - 1)) p ∙ ap (λ (x : ℕ). wireText l e 0 0 s ++ wiresText l e s 1 x) q)
 
 -- the frames of accepted rows from the start are those of all wires
 pub whole-route : (l s : ℕ) (d : ℤ) (a b : List ℤ) → Asked a b s d → movesLeft l s d a b 0 0 ≡ wiresText l (drawn (length a) (pad a) (topPad b d)) s 0 (length a)

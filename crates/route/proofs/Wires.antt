@@ -84,15 +84,18 @@ module _ (a b : List ℤ) (s : ℕ) (d : ℤ) (i : ℕ) (out : List ℤ) (room :
   pub wire-room : s ≤ length (take (length out - 1) (drop 1 out))
   wire-room = omega (arith, lent-length front 1 out out refl (omega arith) was)
 
-  pub wire-drawn : (c x : ℤ) (ys : List ℤ) → c ≡ topPad b d i → x ≡ pad a i → ys ≡ columns (entry (length a) (pad a) c i) s ++ drop s (take (length out - 1) (drop 1 out))
+  pub wire-drawn : (c x : ℤ) (ys : List ℤ) → c ≡ topPad b d i → x ≡ pad a i
+      → ys ≡ columns (entry (length a) (pad a) c i) s ++ drop s (take (length out - 1) (drop 1 out))
       → set (put 1 out ys) 0 x ≡ wireDrawn a b s d i out
   unfolding columns
   wire-drawn c x ys top first g =
       let E : ℕ → ℤ = entry (length a) (pad a) c i in
-      let same : (t : ℕ) → t < s → E t ≡ e (1 + t) = λ t l. ap (λ (z : ℤ). entry (length a) (pad a) z i t) top ∙ sym (column-next (length a) (pad a) (topPad b d i) i t) in
+      let next : (t : ℕ) → entry (length a) (pad a) (topPad b d i) i t ≡ e (1 + t) = λ t. sym (column-next (length a) (pad a) (topPad b d i) i t) in
+      let same : (t : ℕ) → t < s → E t ≡ e (1 + t) = λ t l. ap (λ (z : ℤ). entry (length a) (pad a) z i t) top ∙ next t in
       let w : 1 + s ≡ s + 1 = omega arith in
       let put-there = put-next front 1 out out refl (omega arith) was (columns E s) s ys g in
-      let all : x ∷ columns E s ≡ columns e (1 + s) = rw (first ∙ sym (column-first (length a) (pad a) (topPad b d i) i), columns-same E (λ t. e (1 + t)) s same) (sym (columns-more e 1 s)) in
+      let start : x ≡ e 0 = first ∙ sym (column-first (length a) (pad a) (topPad b d i) i) in
+      let all : x ∷ columns E s ≡ columns e (1 + s) = rw (start, columns-same E (λ t. e (1 + t)) s same) (sym (columns-more e 1 s)) in
       ap (λ (z : List ℤ). set z 0 x) put-there ∙ ap (λ (z : List ℤ). z ++ drop (1 + s) out) all ∙ rw w
 
   pub wire-same-length : (out′ : List ℤ) → out′ ≡ wireDrawn a b s d i out → length out′ ≡ length out

@@ -34,7 +34,8 @@ module _ (u d : ℤ → ℕ) (go : ℤ → ℤ)
     (on : (x : ℤ) → u (go x) + d x ≡ suc (u x + d (go x)))
     (near : (x : ℤ) → Beside x (go x))
     (same : (x y : ℤ) → u x + d y ≡ u y + d x → x ≡ y) where
-  steps-lead : (k : ℕ) (x y : ℤ) (s t : ℕ) (c : ℤ) (rest : List Point) → u x + d y + k ≡ u y + d x → t < s → Leads s c (at y t) rest → Leads s c (at x t) (steps go k x t rest)
+  steps-lead : (k : ℕ) (x y : ℤ) (s t : ℕ) (c : ℤ) (rest : List Point) → u x + d y + k ≡ u y + d x → t < s
+      → Leads s c (at y t) rest → Leads s c (at x t) (steps go k x t rest)
   unfolding steps
   steps-lead zero x y s t c rest h lt l = let e : x ≡ y = same x y (omega arith) in rw e l
   steps-lead (suc k) x y s t c rest h lt l = (lt, inl (refl, near x), steps-lead k (go x) y s t c rest (omega (arith, on x)) lt l)
@@ -52,14 +53,19 @@ module _ (u d : ℤ → ℕ) (go : ℤ → ℤ)
       let p = ap (λ (z : Point). u (z .column)) e in
       let r = ap (λ (z : Point). d (z .column)) e in
       inl (record { same-track = ap (λ (z : Point). z .track) e; after = omega (arith, on x); upto = omega (arith, on x) })
-  steps-on (suc k) x t rest q (inr h) = ⊎-elim (λ z. inl (record { same-track = z .same-track; after = omega (arith, z .after, on x); upto = omega (arith, z .upto, on x) })) inr (steps-on k (go x) t rest q h)
+  steps-on (suc k) x t rest q (inr h) =
+      ⊎-elim
+      (λ z. inl (record { same-track = z .same-track; after = omega (arith, z .after, on x); upto = omega (arith, z .upto, on x) }))
+      inr
+      (steps-on k (go x) t rest q h)
 
   steps-has : (k : ℕ) (x : ℤ) (t : ℕ) (rest : List Point) (q : Point) → Part x t k q → Among q (steps go k x t rest)
   unfolding steps
   steps-has zero x t rest q p = absurd (omega (arith, p .after, p .upto))
   steps-has (suc k) x t rest q p = pick (ℕ-discrete (u (q .column) + d (go x)) (u (go x) + d (q .column))) (steps-has k (go x) t rest q)
     where
-      pick : Dec (u (q .column) + d (go x) ≡ u (go x) + d (q .column)) → (Part (go x) t k q → Among q (steps go k (go x) t rest)) → Among q (at (go x) t ∷ steps go k (go x) t rest)
+      pick : Dec (u (q .column) + d (go x) ≡ u (go x) + d (q .column)) → (Part (go x) t k q → Among q (steps go k (go x) t rest))
+          → Among q (at (go x) t ∷ steps go k (go x) t rest)
       pick (yes g) r = inl (same-point q (at (go x) t) (same (q .column) (go x) g) (p .same-track))
       pick (no g) r = inr (r (record { same-track = p .same-track; after = omega (arith, p .after, on x); upto = omega (arith, p .upto, on x) }))
 
@@ -81,8 +87,11 @@ along-leads : (x y : ℤ) (s t : ℕ) (c : ℤ) (rest : List Point) → t < s �
 along-leads x y s t c rest lt l =
     ⊎-elim
     (λ h. rw (to-east x y t rest h) (steps-lead up down east east-on (λ z. inl refl) (λ p q e. omega arithℤ) (natAbs (y -ℤ x)) x y s t c rest (gap x y h) lt l))
-    (λ h. rw (to-west x y t rest h) (steps-lead down up west west-on west-near (λ p q e. omega arithℤ) (natAbs (x -ℤ y)) x y s t c rest (let le : y ≤ℤ x = omega arithℤ in omega (arith, gap y x le)) lt l))
+    (λ h. rw (to-west x y t rest h) (steps-lead down up west west-on west-near (λ p q e. omega arithℤ) (natAbs (x -ℤ y)) x y s t c rest (far h) lt l))
     (≤-or-< x y)
+  where
+    far : y <ℤ x → down x + up y + natAbs (x -ℤ y) ≡ down y + up x
+    far h = let le : y ≤ℤ x = omega arithℤ in omega (arith, gap y x le)
 
 -- the points of a run, but for its first
 along-on : (x y : ℤ) (t : ℕ) (rest : List Point) (q : Point) → Among q (along x y t rest) → ((q .track ≡ t) × Between (q .column) x y) ⊎ Among q rest
@@ -145,7 +154,9 @@ up-high e t (suc m) q on =
 up-lifted : (e : ℕ → ℤ) (s : ℕ) → (0 < s → e 1 ≡ e 0) → Lifted (upFrom e 0 s)
 unfolding upFrom
 up-lifted e zero rises q on = absurd on
-up-lifted e (suc m) rises q on = ⊎-elim (λ h z. omega (arith, ap (λ (p : Point). p .track) h)) (λ h z. omega (arith, up-high e 1 m q h)) (rw (along-nowhere (e 0) (e 1) 0 _ (rises (omega arith))) at on)
+up-lifted e (suc m) rises q on =
+    let above = rw (along-nowhere (e 0) (e 1) 0 _ (rises (omega arith))) at on in
+    ⊎-elim (λ h z. omega (arith, ap (λ (p : Point). p .track) h)) (λ h z. omega (arith, up-high e 1 m q h)) above
 
 -- every column of the table is joined to the next: the list is a wire
 pub wire-wire : (e : ℕ → ℤ) (s : ℕ) → (0 < s → e 1 ≡ e 0) → Wire s (e 0) (e s) (wireOf e s)
@@ -211,7 +222,9 @@ wire-ends e s a c w = leads-end s (e s) c (at (e 0) 0) (upFrom e 0 s) (up-leads 
 -- and its second column is its first: it passes that column on track 0, and its only point there is its first
 pub wire-rises : (e : ℕ → ℤ) (s : ℕ) (a c : ℤ) → Wire s a c (wireOf e s) → 0 < s → e 1 ≡ e 0
 unfolding wireOf
-wire-rises e s a c w h = go (wire-fills e s (at (e 1) 0) .1 (inl (h, ⊎-elim (λ o. inl (o, omega arithℤ)) (λ o. inr (omega arithℤ, omega arithℤ)) (≤-or-< (e 0) (e 1)))))
+wire-rises e s a c w h =
+    let between : Between (e 1) (e 0) (e 1) = ⊎-elim (λ o. inl (o, omega arithℤ)) (λ o. inr (omega arithℤ, omega arithℤ)) (≤-or-< (e 0) (e 1)) in
+    go (wire-fills e s (at (e 1) 0) .1 (inl (h, between)))
   where
     go : On (at (e 1) 0) (wireOf e s) → e 1 ≡ e 0
     go (zero, l, p) = ap (λ (z : Point). z .column) (sym p)
@@ -241,7 +254,14 @@ stands e s q (inl f) =
 stands e s q (inr f) = record { lo = s; hi = s; lo-at = omega arith; hi-at = omega arith; right-of = omega (arithℤ, f .1); left-of = omega (arithℤ, f .1) }
 
 pub ordered-legal : {n s : ℕ} {a c : ℕ → ℤ} {e : ℕ → ℕ → ℤ} → Ordered n s a c e → LegalTable n s a c e
-ordered-legal {n} {s} {a} {c} {e} T = record { wires = λ i lt. rw (← T .bottom i lt, ← T .top i lt) (wire-wire (e i) s (T .rises i lt)); apart = λ i j lt lt′ p x y. clash i j lt lt′ p (stands (e i) s p (wire-fills (e i) s p .0 x)) (stands (e j) s p (wire-fills (e j) s p .0 y)) }
+ordered-legal {n} {s} {a} {c} {e} T =
+    record {
+      wires = λ i lt. rw (← T .bottom i lt, ← T .top i lt) (wire-wire (e i) s (T .rises i lt));
+      apart = λ i j lt lt′ p x y. clash i j lt lt′ p (stands (e i) s p (wire-fills (e i) s p .0 x)) (stands (e j) s p (wire-fills (e j) s p .0 y));
+    }
   where
     clash : (i j : ℕ) → i < j → j < n → (p : Point) → Stands (e i) s p → Stands (e j) s p → ⊥
-    clash i j lt lt′ p x y = omega (arithℤ, x .left-of, y .right-of, T .clear i j lt lt′ (x .hi) (y .lo) (omega (arith, x .hi-at)) (omega (arith, y .lo-at)) (omega (arith, x .hi-at, y .lo-at)) (omega (arith, x .hi-at, y .lo-at)))
+    clash i j lt lt′ p x y =
+        let near : (x .hi ≤ suc (y .lo)) × (y .lo ≤ suc (x .hi)) = omega (arith, x .hi-at, y .lo-at) in
+        let less = T .clear i j lt lt′ (x .hi) (y .lo) (x .hi-at .2) (y .lo-at .2) (near .0) (near .1) in
+        omega (arithℤ, x .left-of, y .right-of, less)

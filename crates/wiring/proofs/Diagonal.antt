@@ -55,16 +55,19 @@ module _ (u d : ℤ → ℕ)
   step p q (inr n) h = ⊎-elim (λ e. omega (arith, ap u (n .0), ap d (n .0))) (λ e. omega (arith, ap u (n .0), ap d (n .0))) (n .1)
 
   -- a wire from before the diagonal to past it has a point on it, below track s
-  cross : (s : ℕ) (c : ℤ) (p : Point) (r : List Point) → Leads s c p r → lhs p ≤ rhs p → d c + k < u c + s + m → (q : Point) × Among q (p ∷ r) × (q .track < s) × (lhs q ≡ rhs q)
+  cross : (s : ℕ) (c : ℤ) (p : Point) (r : List Point) → Leads s c p r → lhs p ≤ rhs p → d c + k < u c + s + m
+      → (q : Point) × Among q (p ∷ r) × (q .track < s) × (lhs q ≡ rhs q)
   cross s c p [] l h past = absurd (omega (arith, ap (λ (z : Point). u (z .column)) l, ap (λ (z : Point). d (z .column)) l, ap (λ (z : Point). z .track) l))
   cross s c p (q ∷ r) l h past = go (ℕ-discrete (lhs p) (rhs p)) (λ h′. cross s c q r (l .2) h′ past)
     where
-      go : Dec (lhs p ≡ rhs p) → (lhs q ≤ rhs q → (z : Point) × Among z (q ∷ r) × (z .track < s) × (lhs z ≡ rhs z)) → (z : Point) × Among z (p ∷ q ∷ r) × (z .track < s) × (lhs z ≡ rhs z)
+      go : Dec (lhs p ≡ rhs p) → (lhs q ≤ rhs q → (z : Point) × Among z (q ∷ r) × (z .track < s) × (lhs z ≡ rhs z))
+          → (z : Point) × Among z (p ∷ q ∷ r) × (z .track < s) × (lhs z ≡ rhs z)
       go (yes e) f = (p, inl refl, l .0, e)
       go (no e) f = let z = f (step p q (l .1) (omega arith)) in (z .0, inr (z .1), z .2, z .3)
 
   -- a wire over s + 1 tracks that stands before the diagonal on track 1 and ends past it has a point on it, on a track from 1 to s
-  crosses : (s : ℕ) (a c : ℤ) (w : List Point) → Walk (suc s) a c w → u a + 1 + m ≤ d a + k → d c + k < u c + suc s + m → (q : Point) × Among q w × (t : ℕ) × (t < s) × (q .track ≡ suc t) × (lhs q ≡ rhs q)
+  crosses : (s : ℕ) (a c : ℤ) (w : List Point) → Walk (suc s) a c w → u a + 1 + m ≤ d a + k → d c + k < u c + suc s + m
+      → (q : Point) × Among q w × (t : ℕ) × (t < s) × (q .track ≡ suc t) × (lhs q ≡ rhs q)
   crosses s a c [] h before past = absurd h
   crosses s a c (p ∷ []) h before past = absurd (omega (arith, ap (λ (z : Point). z .track) (h .0), ap (λ (z : Point). z .track) (h .1)))
   crosses s a c (p ∷ q ∷ r) h before past =
@@ -74,7 +77,9 @@ module _ (u d : ℤ → ℕ)
       (z .0, inr (z .1), z .0 .track - 1, omega (arith, z .2, up), omega (arith, up), z .3)
 
   -- so no s + 1 wires in a row all go from before the diagonal to past it
-  crowd : {n s : ℕ} {a c : ℕ → ℤ} {w : ℕ → List Point} → Legal n (suc s) a c w → (i : ℕ) → i + s < n → ((j : ℕ) → i ≤ j → j ≤ i + s → u (a j) + 1 + m ≤ d (a j) + k) → ((j : ℕ) → i ≤ j → j ≤ i + s → d (c j) + k < u (c j) + suc s + m) → ⊥
+  crowd : {n s : ℕ} {a c : ℕ → ℤ} {w : ℕ → List Point} → Legal n (suc s) a c w → (i : ℕ) → i + s < n
+      → ((j : ℕ) → i ≤ j → j ≤ i + s → u (a j) + 1 + m ≤ d (a j) + k)
+      → ((j : ℕ) → i ≤ j → j ≤ i + s → d (c j) + k < u (c j) + suc s + m) → ⊥
   crowd {n} {s} {a} {c} {w} legal i fits before past = pigeon s Hits apart hits
     where
       Hits : ℕ → ℕ → Type 0

@@ -39,7 +39,13 @@ module _ (n : ℕ) (a : ℕ → ℤ) (ra : Rising n a) (c : ℤ) (i t : ℕ) (he
   to-left lt = go (ltb i t) refl
     where
       go : (x : Bool) → ltb i t ≡ x → Clamped n a c i t (cond x c (largerOf c (a (i - t) +ℤ pos t)))
-      go true e = record { lower = λ h. absurd (omega (arith, ltb-true i t e)); upper = λ h. omega (arithℤ, on h); below = inl (omega arithℤ); above = inl (omega arithℤ) }
+      go true e =
+          record {
+            lower = λ h. absurd (omega (arith, ltb-true i t e));
+            upper = λ h. omega (arithℤ, on h);
+            below = inl (omega arithℤ);
+            above = inl (omega arithℤ);
+          }
       go false e =
           let l : t ≤ i = ltb-false i t e in
           let m = larger-law c (a (i - t) +ℤ pos t) in
@@ -64,7 +70,13 @@ module _ (n : ℕ) (a : ℕ → ℤ) (ra : Rising n a) (c : ℤ) (i t : ℕ) (he
             below = inl (m .first);
             above = ⊎-elim (λ g. inl (omega arithℤ)) (λ g. inr (l, g)) (m .one);
           }
-      go false e = record { lower = λ h. omega (arithℤ, back h); upper = λ h. absurd (omega (arith, ltb-false (i + t) n e)); below = inl (omega arithℤ); above = inl (omega arithℤ) }
+      go false e =
+          record {
+            lower = λ h. omega (arithℤ, back h);
+            upper = λ h. absurd (omega (arith, ltb-false (i + t) n e));
+            below = inl (omega arithℤ);
+            above = inl (omega arithℤ);
+          }
 
 pub entry-clamped : (n : ℕ) (a : ℕ → ℤ) → Rising n a → (c : ℤ) (i t : ℕ) → i < n → Clamped n a c i t (entry n a c i t)
 unfolding entry
@@ -98,21 +110,37 @@ module _ (n : ℕ) (a c : ℕ → ℤ) (ra : Rising n a) (rc : Rising n c) where
   -- its runs are in order, whether or not the rule holds
   entry-less : (i j : ℕ) → i < j → j < n → (t t′ : ℕ) → t ≤ suc t′ → t′ ≤ suc t → e i t <ℤ e j t′
   entry-less i j lt lt′ t t′ h k =
-      let x : Clamped n a (c i) i t (e i t) = law i t (omega arith) in
-      let y : Clamped n a (c j) j t′ (e j t′) = law j t′ lt′ in
-      ⊎-elim
-      (λ p. ⊎-elim (λ q. omega (arithℤ, rising-less rc i j lt lt′))
-      (λ q. omega (arithℤ, q .1, x .upper (omega (arith, q .0)), dif (a (i + t)) (pos t), dif (a (j + t′)) (pos t′), sum (a (i + t)) (pos (j + t′ - (i + t))), spread ra (j + t′ - (i + t)) (i + t) (j + t′) (omega arith) (q .0)))
-      (y .above))
-      (λ p. omega (arithℤ, p .1, y .lower (omega (arith, p .0)), sum (a (i - t)) (pos t), sum (a (j - t′)) (pos t′), sum (a (i - t)) (pos (j - t′ - (i - t))), spread ra (j - t′ - (i - t)) (i - t) (j - t′) (omega (arith, p .0)) (omega arith)))
-      (x .below)
+      ⊎-elim (λ p. ⊎-elim (λ q. omega (arithℤ, rising-less rc i j lt lt′)) held-right (y .above)) held-left (x .below)
+    where
+      x : Clamped n a (c i) i t (e i t)
+      x = law i t (omega arith)
+
+      y : Clamped n a (c j) j t′ (e j t′)
+      y = law j t′ lt′
+
+      -- pad j + t′ holds wire j
+      held-right : (j + t′ < n) × (e j t′ ≡ a (j + t′) -ℤ pos t′) → e i t <ℤ e j t′
+      held-right q =
+          let gap = j + t′ - (i + t) in
+          let far = spread ra gap (i + t) (j + t′) (omega arith) (q .0) in
+          omega (arithℤ, q .1, x .upper (omega (arith, q .0)), dif (a (i + t)) (pos t), dif (a (j + t′)) (pos t′), sum (a (i + t)) (pos gap), far)
+
+      -- pad i - t holds wire i
+      held-left : (t ≤ i) × (e i t ≡ a (i - t) +ℤ pos t) → e i t <ℤ e j t′
+      held-left p =
+          let gap = j - t′ - (i - t) in
+          let far = spread ra gap (i - t) (j - t′) (omega (arith, p .0)) (omega arith) in
+          omega (arithℤ, p .1, y .lower (omega (arith, p .0)), sum (a (i - t)) (pos t), sum (a (j - t′)) (pos t′), sum (a (i - t)) (pos gap), far)
 
   entry-top : (s : ℕ) → Clear n s a c → (i : ℕ) → i < n → e i s ≡ c i
   entry-top s clear i h =
       let x = law i s h in
-      let le : e i s ≤ℤ c i = ⊎-elim (λ p. p) (λ p. let g : c (i - s + s) ≡ c i = ap c (omega (arith, p .0)) in omega (arithℤ, p .1, clear (i - s) (omega (arith, p .0)) .0)) (x .below) in
+      let le : e i s ≤ℤ c i = ⊎-elim (λ p. p) (λ p. omega (arithℤ, p .1, there (p .0), clear (i - s) (omega (arith, p .0)) .0)) (x .below) in
       let ge : c i ≤ℤ e i s = ⊎-elim (λ p. p) (λ p. omega (arithℤ, p .1, clear i (p .0) .1, sum (c i) (pos s), dif (a (i + s)) (pos s))) (x .above) in
       omega arithℤ
+    where
+      there : s ≤ i → c (i - s + s) ≡ c i
+      there p = ap c (omega arith)
 
   -- on its pad's column the wire enters track 0, and track 1 too
   pub drawn-bottom : (i : ℕ) → drawn n a c i 0 ≡ a i

@@ -1,5 +1,5 @@
--- The mirror law, of the rule and of wirings: the jumper seen from behind (columns negated, order of pairs and sign of the offset turned) fits exactly where the jumper does,
--- and a witness there is the witness here with its pads counted from the other end and its side exchanged.
+-- The mirror law, of the rule and of wirings: the jumper seen from behind (columns negated, order of pairs and sign of the offset turned) fits
+-- exactly where the jumper does, and a witness there is the witness here with its pads counted from the other end and its side exchanged.
 use mathlib.Core.Path.{_≡_, refl, ap}
 use mathlib.Core.Logic.{_↔_}
 use Prim.Native.Nat.{ℕ, suc, _+_, _-_, _<_}
@@ -107,18 +107,25 @@ module _ (n s : ℕ) (a b : ℕ → ℤ) (d : ℤ) where
   -- the witness, turned
   pub right-turned : (i : ℕ) → TooRight n s (lean (behind n a)) (lean (behind n b)) (negℤ d) i ↔ ((i + s < n) × TooLeft n s (lean a) (lean b) d (turned n s i))
   right-turned i = (
-    (λ r. (r .inside, record { inside = omega (arith, r .inside); under = omega (arithℤ, r .above, high-turned n s a b i (r .inside), neg d, neg (lowEnd (lean a) (lean b) s (turned n s i))) })),
+    (λ r.
+        let ends = high-turned n s a b i (r .inside) in
+        let turn = neg (lowEnd (lean a) (lean b) s (turned n s i)) in
+        (r .inside, record { inside = omega (arith, r .inside); under = omega (arithℤ, r .above, ends, neg d, turn) })),
     (λ l. record { inside = l .0; above = omega (arithℤ, l .1 .under, high-turned n s a b i (l .0), neg d, neg (lowEnd (lean a) (lean b) s (turned n s i))) }),
   )
 
   pub left-turned : (i : ℕ) → TooLeft n s (lean (behind n a)) (lean (behind n b)) (negℤ d) i ↔ ((i + s < n) × TooRight n s (lean a) (lean b) d (turned n s i))
   left-turned i = (
-    (λ l. (l .inside, record { inside = omega (arith, l .inside); above = omega (arithℤ, l .under, low-turned n s a b i (l .inside), neg d, neg (highEnd (lean a) (lean b) s (turned n s i))) })),
+    (λ l.
+        let ends = low-turned n s a b i (l .inside) in
+        let turn = neg (highEnd (lean a) (lean b) s (turned n s i)) in
+        (l .inside, record { inside = omega (arith, l .inside); above = omega (arithℤ, l .under, ends, neg d, turn) })),
     (λ r. record { inside = r .0; under = omega (arithℤ, r .1 .above, low-turned n s a b i (r .0), neg d, neg (highEnd (lean a) (lean b) s (turned n s i))) }),
   )
 
 -- THE MIRROR LAW OF WIRINGS, over as many tracks
-pub mirror-wiring : (n s : ℕ) (a b : ℕ → ℤ) (d : ℤ) → Rising n a → Rising n b → Wirable n s (behind n a) (shifted (behind n b) (negℤ d)) ↔ Wirable n s a (shifted b d)
+pub mirror-wiring : (n s : ℕ) (a b : ℕ → ℤ) (d : ℤ) → Rising n a → Rising n b
+    → Wirable n s (behind n a) (shifted (behind n b) (negℤ d)) ↔ Wirable n s a (shifted b d)
 mirror-wiring n s a b d ra rb =
     let back = fit-exactly n s (behind n a) (behind n b) (negℤ d) (behind-rising n a ra) (behind-rising n b rb) in
     let front = fit-exactly n s a b d ra rb in

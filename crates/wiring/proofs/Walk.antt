@@ -52,7 +52,9 @@ record Tail (s : ℕ) (c : ℤ) (p : Point) (r : List Point) : Type 0 where
 
 leads-of : (s : ℕ) (c : ℤ) (p : Point) (r : List Point) → Tail s c p r → Leads s c p r
 leads-of s c p [] t = t .ends
-leads-of s c p (q ∷ r) t = (t .below 0 (omega arith), t .steps 0 (omega arith), leads-of s c q r (record { ends = t .ends; steps = λ k h. t .steps (suc k) (omega arith); below = λ k h. t .below (suc k) (omega arith) }))
+leads-of s c p (q ∷ r) t =
+    let rest : Tail s c q r = record { ends = t .ends; steps = λ k h. t .steps (suc k) (omega arith); below = λ k h. t .below (suc k) (omega arith) } in
+    (t .below 0 (omega arith), t .steps 0 (omega arith), leads-of s c q r rest)
 
 more : (s : ℕ) (c : ℤ) (p q : Point) (r : List Point) → p .track < s → Step p q → Tail s c q r → Tail s c p (q ∷ r)
 more s c p q r lt n t = record { ends = t .ends; steps = steps; below = below }
@@ -71,10 +73,19 @@ tail-of s c p (q ∷ r) l = more s c p q r (l .0) (l .1) (tail-of s c q r (l .2)
 
 pub wire-walk : (s : ℕ) (a c : ℤ) (w : List Point) → Wire s a c w → Walk s a c w
 wire-walk s a c [] h = omega (arith, h .some)
-wire-walk s a c (p ∷ r) h =
-    let l : suc (length r) - 1 ≡ length r = omega arith in
-    (h .starts, leads-of s c p r (record { ends = rw l at (h .ends); steps = λ k lt. rw (add-one k) at (h .steps k (omega arith)); below = λ k lt. omega (arith, h .stays k (omega arith), h .below k (omega arith)) }), lifted)
+wire-walk s a c (p ∷ r) h = (h .starts, leads-of s c p r tail, lifted)
   where
+    l : suc (length r) - 1 ≡ length r
+    l = omega arith
+
+    tail : Tail s c p r
+    tail =
+        record {
+          ends = rw l at (h .ends);
+          steps = λ k lt. rw (add-one k) at (h .steps k (omega arith));
+          below = λ k lt. omega (arith, h .stays k (omega arith), h .below k (omega arith));
+        }
+
     lifted : Lifted r
     lifted q among z =
         let on = among-on q r among in

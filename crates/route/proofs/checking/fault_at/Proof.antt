@@ -15,7 +15,9 @@ start-wrong-requires c κs = search needs
 returns : tie.Need-returns
 returns c =
     let s = c .before .before .args in
-    sym (fault-start (length (s .a .now)) (s .s) (pad (s .a .now)) (topPad (s .b .now) (s .d)) (columnIn (s .table .now) (s .s)) (s .t) (s .i) (sym (c .before .start-wrong .ensures) ∙ c .if1 .taken))
+    sym
+    (fault-start (length (s .a .now)) (s .s) (pad (s .a .now)) (topPad (s .b .now) (s .d)) (columnIn (s .table .now) (s .s)) (s .t) (s .i)
+    (sym (c .before .start-wrong .ensures) ∙ c .if1 .taken))
 
 end-wrong-requires : tie.Need-end-wrong-requires
 end-wrong-requires c κs =
@@ -28,7 +30,10 @@ returns-2 c =
     let d = k .before .before in
     let s = d .args in
     let e = rw (toZ-ofZ w32 (s .d) (d .fits .d)) at (c .before .end-wrong .ensures) in
-    sym (fault-end (length (s .a .now)) (s .s) (pad (s .a .now)) (topPad (s .b .now) (s .d)) (columnIn (s .table .now) (s .s)) (s .t) (s .i) (sym (k .before .start-wrong .ensures) ∙ k .if1 .left) (sym e ∙ c .if2 .taken))
+    sym
+    (fault-end (length (s .a .now)) (s .s) (pad (s .a .now)) (topPad (s .b .now) (s .d)) (columnIn (s .table .now) (s .s)) (s .t) (s .i)
+    (sym (k .before .start-wrong .ensures) ∙ k .if1 .left)
+    (sym e ∙ c .if2 .taken))
 
 steps-aside-requires : tie.Need-steps-aside-requires
 steps-aside-requires c κs = search needs

@@ -34,15 +34,20 @@ returns c =
     let ex = toZ-ofZ w32 (x .result) (sfits-of (x .ok)) ∙ x .ensures in
     let ey = toZ-ofZ w32 (y .result) (sfits-of (y .ok)) ∙ y .ensures in
     let e = columnIn (s .table .now) (s .s) in
-    rw (ex, ey) at (c .differs .ensures) ∙ sym (aside-here (s .n) (s .s) (pad (s .table .now)) (pad (s .table .now)) e (s .t) (s .i) (at-if2 .before .if1 .taken) (at-if2 .if2 .taken))
+    let row = pad (s .table .now) in
+    rw (ex, ey) at (c .differs .ensures) ∙ sym (aside-here (s .n) (s .s) row row e (s .t) (s .i) (at-if2 .before .if1 .taken) (at-if2 .if2 .taken))
 
 returns-2 : tie.Need-returns-2
 returns-2 c =
     let s = c .before .before .args in
-    sym (aside-flat (s .n) (s .s) (pad (s .table .now)) (pad (s .table .now)) (columnIn (s .table .now) (s .s)) (s .t) (s .i) (c .before .if1 .taken) (omega (arith, c .if2 .left)))
+    let row = pad (s .table .now) in
+    sym (aside-flat (s .n) (s .s) row row (columnIn (s .table .now) (s .s)) (s .t) (s .i) (c .before .if1 .taken) (omega (arith, c .if2 .left)))
 
 returns-3 : tie.Need-returns-3
-returns-3 c = let s = c .before .args in sym (aside-off (s .n) (s .s) (pad (s .table .now)) (pad (s .table .now)) (columnIn (s .table .now) (s .s)) (s .t) (s .i) (c .if1 .left))
+returns-3 c =
+    let s = c .before .args in
+    let row = pad (s .table .now) in
+    sym (aside-off (s .n) (s .s) row row (columnIn (s .table .now) (s .s)) (s .t) (s .i) (c .if1 .left))
 
 pub steps-aside-spec : {M : Type 1} → statement M
 steps-aside-spec =

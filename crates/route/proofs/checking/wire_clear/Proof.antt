@@ -19,7 +19,11 @@ start-wrong-requires c κs = search needs
 returns : tie.Need-returns
 returns c =
     let s = c .before .before .args in
-    unclear (length (s .a .now)) (s .s) (pad (s .a .now)) (topPad (s .b .now) (s .d)) (columnIn (s .table .now) (s .s)) (s .i) (start-unclear (length (s .a .now)) (s .s) (pad (s .a .now)) (topPad (s .b .now) (s .d)) (columnIn (s .table .now) (s .s)) (s .i) (sym (c .before .start-wrong .ensures) ∙ c .if1 .taken))
+    let n = length (s .a .now) in
+    let e = columnIn (s .table .now) (s .s) in
+    let top = topPad (s .b .now) (s .d) in
+    let bottom = pad (s .a .now) in
+    unclear n (s .s) bottom top e (s .i) (start-unclear n (s .s) bottom top e (s .i) (sym (c .before .start-wrong .ensures) ∙ c .if1 .taken))
 
 end-wrong-requires : tie.Need-end-wrong-requires
 end-wrong-requires c κs =
@@ -30,8 +34,12 @@ returns-2 : tie.Need-returns-2
 returns-2 c =
     let d = c .before .before .before .before in
     let s = d .args in
-    let e = rw (toZ-ofZ w32 (s .d) (d .fits .d)) at (c .before .end-wrong .ensures) in
-    unclear (length (s .a .now)) (s .s) (pad (s .a .now)) (topPad (s .b .now) (s .d)) (columnIn (s .table .now) (s .s)) (s .i) (end-unclear (length (s .a .now)) (s .s) (pad (s .a .now)) (topPad (s .b .now) (s .d)) (columnIn (s .table .now) (s .s)) (s .i) (sym e ∙ c .if2 .taken))
+    let n = length (s .a .now) in
+    let e = columnIn (s .table .now) (s .s) in
+    let top = topPad (s .b .now) (s .d) in
+    let bottom = pad (s .a .now) in
+    let said = rw (toZ-ofZ w32 (s .d) (d .fits .d)) at (c .before .end-wrong .ensures) in
+    unclear n (s .s) bottom top e (s .i) (end-unclear n (s .s) bottom top e (s .i) (sym said ∙ c .if2 .taken))
 
 steps-aside-requires : tie.Need-steps-aside-requires
 steps-aside-requires c κs = search needs
@@ -42,7 +50,8 @@ returns-3 c =
     let n = length (s .a .now) in
     let e = columnIn (s .table .now) (s .s) in
     let top = topPad (s .b .now) (s .d) in
-    unclear n (s .s) (pad (s .a .now)) top e (s .i) (aside-unclear n (s .s) (pad (s .a .now)) top e (s .i) (sym (c .before .steps-aside .ensures) ∙ c .if3 .taken))
+    let bottom = pad (s .a .now) in
+    unclear n (s .s) bottom top e (s .i) (aside-unclear n (s .s) bottom top e (s .i) (sym (c .before .steps-aside .ensures) ∙ c .if3 .taken))
 
 add-if4 : tie.Need-add-if4
 add-if4 c = search needs

@@ -37,7 +37,8 @@ returns-2 c =
     let ec = toZ-ofZ w32 (g .args .c) (g .fits .c) in
     let ea = back (a (g .args .i)) (c .before .before .before .if12 .given) in
     let l = c .going-left in
-    back (l .result) (l .ok) ∙ (rw ec at (l .ensures)) ∙ sym (to-left n a (g .args .c) (g .args .i) (rw (ec, ea) at (c .before .before .if1 .taken)) (g .args .t))
+    let is-left = rw (ec, ea) at (c .before .before .if1 .taken) in
+    back (l .result) (l .ok) ∙ (rw ec at (l .ensures)) ∙ sym (to-left n a (g .args .c) (g .args .i) is-left (g .args .t))
 
 add-if3 : tie.Need-add-if3
 add-if3 c = search needs
@@ -53,7 +54,8 @@ returns-3 c =
     let ec = toZ-ofZ w32 (g .args .c) (g .fits .c) in
     let ea = back (a (g .args .i)) (c .before .before .before .if12 .given) in
     let r = c .going-right in
-    back (r .result) (r .ok) ∙ (rw ec at (r .ensures)) ∙ sym (to-right n a (g .args .c) (g .args .i) (g .pre .1) (rw (ec, ea) at (c .before .before .if1 .left)) (g .args .t))
+    let not-left = rw (ec, ea) at (c .before .before .if1 .left) in
+    back (r .result) (r .ok) ∙ (rw ec at (r .ensures)) ∙ sym (to-right n a (g .args .c) (g .args .i) (g .pre .1) not-left (g .args .t))
 
 returns-4 : tie.Need-returns-4
 returns-4 c =

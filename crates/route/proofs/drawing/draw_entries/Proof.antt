@@ -33,8 +33,8 @@ returns c =
     let s = at-start .args in
     let x = toZ-ofZ w32 (s .c) (at-start .fits .c) in
     let e = back (pad (s .a .now) (s .i)) (at-if1 .before .if12 .given) in
-    (rw x at (c .before .draw-left .ensures))
-    ∙ ap (λ (z : List ℤ). z ++ drop (s .k) (s .out .now)) (left-columns (length (s .a .now)) (pad (s .a .now)) (s .c) (s .i) (s .k) (rw (x, e) at (at-if1 .if1 .taken)))
+    let drawn = left-columns (length (s .a .now)) (pad (s .a .now)) (s .c) (s .i) (s .k) (rw (x, e) at (at-if1 .if1 .taken)) in
+    (rw x at (c .before .draw-left .ensures)) ∙ ap (λ (z : List ℤ). z ++ drop (s .k) (s .out .now)) drawn
 
 same-length-2 : tie.Need-same-length-2
 same-length-2 c = search needs
@@ -46,8 +46,8 @@ returns-2 c =
     let s = at-start .args in
     let x = toZ-ofZ w32 (s .c) (at-start .fits .c) in
     let e = back (pad (s .a .now) (s .i)) (at-if1 .before .if12 .given) in
-    (rw x at (c .before .draw-right .ensures))
-    ∙ ap (λ (z : List ℤ). z ++ drop (s .k) (s .out .now)) (right-columns (length (s .a .now)) (pad (s .a .now)) (s .c) (s .i) (s .k) (at-start .pre .2) (rw (x, e) at (at-if1 .if1 .left)))
+    let drawn = right-columns (length (s .a .now)) (pad (s .a .now)) (s .c) (s .i) (s .k) (at-start .pre .2) (rw (x, e) at (at-if1 .if1 .left)) in
+    (rw x at (c .before .draw-right .ensures)) ∙ ap (λ (z : List ℤ). z ++ drop (s .k) (s .out .now)) drawn
 
 pub draw-entries-spec : {M : Type 1} → statement M
 draw-entries-spec =

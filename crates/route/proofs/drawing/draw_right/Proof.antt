@@ -46,8 +46,10 @@ returns c =
     let k = h .before .before in
     let s = k .before .args in
     let e = toZ-ofZ w32 (s .c) (k .before .fits .c) in
-    straight-on (rightward (length (s .a .now)) (pad (s .a .now)) (s .c) (s .i)) (s .c) (k .fewer .result) (s .k) (s .out .now) _ _ (omega (arith, k .fewer .ensures)) (omega arith)
-    (λ t m l. rightward-free (length (s .a .now)) (pad (s .a .now)) (s .c) (s .i) t (omega (arith, k .fewer .ensures)))
+    let n = length (s .a .now) in
+    let a = pad (s .a .now) in
+    straight-on (rightward n a (s .c) (s .i)) (s .c) (k .fewer .result) (s .k) (s .out .now) _ _ (omega (arith, k .fewer .ensures)) (omega arith)
+    (λ t m l. rightward-free n a (s .c) (s .i) t (omega (arith, k .fewer .ensures)))
     (rw e at (h .held-right .ensures))
     (simp e at (c .before .straight .ensures))
 
