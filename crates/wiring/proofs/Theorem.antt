@@ -92,8 +92,9 @@ first-track n a b d ra rb w = fit-exactly n 0 a b d ra rb .1 (rw rule-zero (stif
 -- a fit at s is a fit at s + 1: one track more never hurts
 pub wirable-next : (n s : ℕ) (a b : ℕ → ℤ) (d : ℤ) → Rising n a → Rising n b → Wirable n s a (shifted b d) → Wirable n (suc s) a (shifted b d)
 wirable-next n s a b d ra rb w =
-    fit-exactly n (suc s) a b d ra rb .1
-    (fits-above (lean-steady ra) (lean-steady rb) (ruleAt (suc s) - ruleAt s) (ruleAt s) (ruleAt (suc s)) (omega (arith, rule-up s (suc s) (omega arith))) (fit-exactly n s a b d ra rb .0 w))
+    let on = ruleAt (suc s) - ruleAt s in
+    let there : ruleAt s + on ≡ ruleAt (suc s) = omega (arith, rule-up s (suc s) (omega arith)) in
+    fit-exactly n (suc s) a b d ra rb .1 (fits-above (lean-steady ra) (lean-steady rb) on (ruleAt s) (ruleAt (suc s)) there (fit-exactly n s a b d ra rb .0 w))
 
 -- where the rule has no pairs to meet, every offset has a wiring
 pub wide-enough : (n s : ℕ) (a b : ℕ → ℤ) (d : ℤ) → Rising n a → Rising n b → n ≤ ruleAt s → Wirable n s a (shifted b d)
