@@ -156,7 +156,7 @@ fn draw_entries(a: &[i32], c: i32, i: usize, k: usize, out: &mut [i32])
     }
 }
 
-// Wire i into the first s + 1 places: its pad's column on track 0, and 01's columns above it. The first place is stored last: stored first, it cost a tenth.
+// Wire i into the first s + 1 places: its pad's column on track 0, and 01's columns above it. The first place is stored last: stored first, drawing was slower.
 fn draw_columns(a: &[i32], b: &[i32], s: usize, d: i32, i: usize, out: &mut [i32])
     requires { ⌜ Asked (now a) (now b) s d × (i < length (now a)) × (s < length (now out)) ⌝ }
     ensures { λ r. ⌜ now (out .exit) ≡ wireDrawn (now (a .entry)) (now (b .entry)) s d i (now (out .entry)) ⌝ }
