@@ -18,8 +18,8 @@ use Rattle.wiring.specs.Fit.{Rising}
 use Rattle.wiring.specs.Tracks.{ruleAt}
 use Rattle.wiring.specs.Drawing.{entry, columnAt, drawn}
 use Rattle.wiring.proofs.Rule.{spread}
-use Rattle.wiring.proofs.Serves.{rule-zero, rule-next, rule-up}
-use Rattle.wiring.proofs.Drawing.{entry-clamped}
+use Rattle.wiring.proofs.Serves.{rule-up}
+use Rattle.wiring.proofs.Drawing.{entry-clamped, column-second}
 use Rattle.jumper.specs.Refusals.{refusalNumbers}
 use Rattle.jumper.specs.Rows.{checkedNumbers}
 use Rattle.jumper.specs.Asked.{checkAsked, Asked}
@@ -77,9 +77,8 @@ stays n a ra c i t u here le = held n a ra c i (ruleAt t) (ruleAt u) here (rule-
 pub none-on-track-0 : (l n : ℕ) (a c : ℕ → ℤ) (i : ℕ) → trackText l (drawn n a c) i 0 ≡ []
 unfolding moveText
 none-on-track-0 l n a c i =
-    let first : drawn n a c i 0 ≡ entry n a (c i) i 0 = ap (entry n a (c i) i) rule-zero in
-    let next : drawn n a c i (0 + 1) ≡ entry n a (c i) i 0 = ap (entry n a (c i) i) (rule-next 0) in
-    simp (first, next, differ-same (entry n a (c i) i 0)) refl
+    let second : drawn n a c i (0 + 1) ≡ drawn n a c i 0 = column-second n a (c i) i in
+    simp (second, differ-same (drawn n a c i 0)) refl
 
 no-tracks : (l : ℕ) (e : ℕ → ℕ → ℤ) (c : ℤ) (i t k : ℕ) → ((u : ℕ) → t ≤ u → e i u ≡ c) → wireText l e i t k ≡ []
 unfolding wireText moveText

@@ -1,4 +1,4 @@
--- The columns of one wire: 01's, where a pad holds it and where none does, and ours, with one straight step put below.
+-- The columns of one wire, 01's, where a pad holds it and where none does; and the wire in a buffer.
 use mathlib.Core.Path.{_≡_, refl, sym, ap, _∙_}
 use mathlib.Core.Bool.{true, false}
 use mathlib.Core.List.{List, [], _∷_, _++_}
@@ -13,8 +13,8 @@ use Rattle.whole.specs.Pick.{largerOf, smallerOf}
 use Rattle.whole.proofs.Arith.{up, down, arithℤ, sum, dif}
 use Rattle.whole.proofs.Order.{true-lt, false-lt, larger-right, smaller-right}
 use Rattle.wiring.specs.Wiring.{pad, topPad}
-use Rattle.wiring.specs.Drawing.{rightward, leftward, entry, columnAt}
-use Rattle.wiring.proofs.Serves.{rule-zero, rule-next}
+use Rattle.wiring.specs.Drawing.{rightward, leftward, entry}
+use Rattle.wiring.proofs.Drawing.{column-first, column-next}
 use Rattle.route.specs.Table.{columns}
 use Rattle.route.specs.Draw.{drawnOf, wireDrawn}
 use Rattle.route.proofs.Places.{columns-length, columns-same, columns-more, put, put-same, lent-length, put-next}
@@ -62,14 +62,6 @@ module _ (n : ℕ) (a : ℕ → ℤ) (c : ℤ) (i : ℕ) where
   pub right-columns : (k : ℕ) → i < n → ltZ c (a i) ≡ false → columns (rightward n a c i) k ≡ columns (entry n a c i) k
   right-columns k lt h = columns-same (rightward n a c i) (entry n a c i) k (λ t l. sym (to-right lt h t))
 
--- above track 0 our columns are 01's, one track higher
-pub column-next : (n : ℕ) (a : ℕ → ℤ) (c : ℤ) (i t : ℕ) → columnAt n a c i (1 + t) ≡ entry n a c i t
-column-next n a c i t = let w : 1 + t ≡ suc t = omega arith in rw (w, rule-next t)
-
-pub column-first : (n : ℕ) (a : ℕ → ℤ) (c : ℤ) (i : ℕ) → columnAt n a c i 0 ≡ a i
-unfolding entry
-column-first n a c i = rw rule-zero
-
 -- WIRE i IN A BUFFER: 01's first s columns in the part after its first place, and then pad i's column in the first place
 module _ (a b : List ℤ) (s : ℕ) (d : ℤ) (i : ℕ) (out : List ℤ) (room : s < length out) where
   abbrev e : ℕ → ℤ
@@ -90,7 +82,8 @@ module _ (a b : List ℤ) (s : ℕ) (d : ℤ) (i : ℕ) (out : List ℤ) (room :
   unfolding columns
   wire-drawn c x ys top first g =
       let E : ℕ → ℤ = entry (length a) (pad a) c i in
-      let next : (t : ℕ) → entry (length a) (pad a) (topPad b d i) i t ≡ e (1 + t) = λ t. sym (column-next (length a) (pad a) (topPad b d i) i t) in
+      let up : (t : ℕ) → 1 + t ≡ suc t = λ t. omega arith in
+      let next : (t : ℕ) → entry (length a) (pad a) (topPad b d i) i t ≡ e (1 + t) = λ t. sym (ap e (up t) ∙ column-next (length a) (pad a) (topPad b d i) i t) in
       let same : (t : ℕ) → t < s → E t ≡ e (1 + t) = λ t l. ap (λ (z : ℤ). entry (length a) (pad a) z i t) top ∙ next t in
       let w : 1 + s ≡ s + 1 = omega arith in
       let put-there = put-next front 1 out out refl (omega arith) was (columns E s) s ys g in

@@ -13,7 +13,7 @@ use Rattle.whole.specs.Pick.{largerOf, smallerOf}
 use Rattle.whole.proofs.Arith.{up, down, arithℤ, sum, dif}
 use Rattle.whole.proofs.Order.{true-lt, false-lt, larger-law, smaller-law}
 use Rattle.wiring.specs.Fit.{Rising}
-use Rattle.wiring.specs.Drawing.{rightward, leftward, entry, drawn}
+use Rattle.wiring.specs.Drawing.{rightward, leftward, entry, columnAt, drawn}
 use Rattle.wiring.specs.Tracks.{ruleAt}
 use Rattle.wiring.proofs.Rule.{spread, rising-less}
 use Rattle.wiring.proofs.Serves.{rule-zero, rule-next, rule-near}
@@ -95,6 +95,17 @@ entry-clamped n a ra c i (suc t) here = go (ltZ c (a i)) refl
     go true e = to-left n a ra c i (suc t) here (true-lt c (a i) e)
     go false e = to-right n a ra c i (suc t) here (false-lt c (a i) e)
 
+-- our columns: a wire enters track 0 on its pad's column, and track t + 1 on 01's e_t; so it enters track 1 on its pad's column too
+pub column-first : (n : ℕ) (a : ℕ → ℤ) (c : ℤ) (i : ℕ) → columnAt n a c i 0 ≡ a i
+unfolding entry
+column-first n a c i = rw rule-zero
+
+pub column-next : (n : ℕ) (a : ℕ → ℤ) (c : ℤ) (i t : ℕ) → columnAt n a c i (suc t) ≡ entry n a c i t
+column-next n a c i t = rw (rule-next t)
+
+pub column-second : (n : ℕ) (a : ℕ → ℤ) (c : ℤ) (i : ℕ) → columnAt n a c i 1 ≡ columnAt n a c i 0
+column-second n a c i = rw (rule-next 0, rule-zero)
+
 -- in columns, the rule says that each pad is s columns clear of the pad of the other row that stands s places on
 abbrev pub Clear : (n s : ℕ) (a c : ℕ → ℤ) → Type 0
 Clear n s a c = (i : ℕ) → i + s < n → ((a i +ℤ pos s) ≤ℤ c (i + s)) × ((c i +ℤ pos s) ≤ℤ a (i + s))
@@ -142,19 +153,11 @@ module _ (n : ℕ) (a c : ℕ → ℤ) (ra : Rising n a) (rc : Rising n c) where
       there : s ≤ i → c (i - s + s) ≡ c i
       there p = ap c (omega arith)
 
-  -- on its pad's column the wire enters track 0, and track 1 too
-  pub drawn-bottom : (i : ℕ) → drawn n a c i 0 ≡ a i
-  unfolding entry
-  drawn-bottom i = rw rule-zero
-
-  drawn-rises : (i : ℕ) → drawn n a c i 1 ≡ drawn n a c i 0
-  drawn-rises i = rw (rule-next 0, rule-zero)
-
   pub drawn-ordered : (s : ℕ) → Clear n (ruleAt s) a c → Ordered n s a c (drawn n a c)
   drawn-ordered s clear =
       record {
-        bottom = λ i h. drawn-bottom i;
-        rises = λ i h _. drawn-rises i;
+        bottom = λ i h. column-first n a (c i) i;
+        rises = λ i h _. column-second n a (c i) i;
         top = entry-top (ruleAt s) clear;
         clear = λ i j lt lt′ t t′ _ _ h k. entry-less i j lt lt′ (ruleAt t) (ruleAt t′) (rule-near t t′ h) (rule-near t′ t k);
       }

@@ -1,5 +1,6 @@
 -- The laws of `ruleAt` and `tracksFor`, by which all else uses them.
 use mathlib.Core.Path.{_≡_, refl}
+use mathlib.Core.Logic.{_↔_}
 use Prim.Native.Nat.{ℕ, zero, suc, _+_, _-_, _≤_, _<_}
 use native.Mathlib.Omega.{arith}
 use Rattle.wiring.specs.Tracks.{ruleAt, tracksFor}
@@ -53,13 +54,9 @@ rule-under zero t h = absurd (omega arith)
 rule-under (suc r) t h = omega arith
 
 -- the rule is read at n or more exactly at separations above n
-pub rule-past : (n t : ℕ) → 0 < n → n ≤ ruleAt t → n < t
+pub rule-past : (n t : ℕ) → 0 < n → (n ≤ ruleAt t) ↔ (n < t)
 unfolding ruleAt
-rule-past n t some h = omega arith
-
-pub past-rule : (n t : ℕ) → n < t → n ≤ ruleAt t
-unfolding ruleAt
-past-rule n t h = omega arith
+rule-past n t some = ((λ h. omega arith), (λ h. omega arith))
 
 -- "a least or best separation of 0 stays and any other grows by one"
 pub tracks-zero : tracksFor 0 ≡ 0

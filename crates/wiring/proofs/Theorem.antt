@@ -14,7 +14,7 @@ use Rattle.wiring.specs.Tracks.{ruleAt}
 use Rattle.wiring.specs.Table.{LegalTable}
 use Rattle.wiring.specs.Drawing.{drawn}
 use Rattle.wiring.proofs.Rule.{rising-steady, lean-steady, fits-above, fits-past}
-use Rattle.wiring.proofs.Serves.{rule-zero, rule-next, rule-up, rule-past, past-rule}
+use Rattle.wiring.proofs.Serves.{rule-zero, rule-next, rule-up, rule-past}
 use Rattle.wiring.proofs.Diagonal.{upright, left, right}
 use Rattle.wiring.proofs.Build.{ordered-legal}
 use Rattle.wiring.proofs.Drawing.{Clear, drawn-ordered}
@@ -102,7 +102,7 @@ wide-enough n s a b d ra rb h = fit-exactly n s a b d ra rb .1 (fits-past n (rul
 
 -- "every offset fits only above n": at n tracks and fewer one past the high end of pair 0 does not
 pub every-offset : (n s : ℕ) (a b : ℕ → ℤ) → 0 < n → Rising n a → Rising n b → ((d : ℤ) → Wirable n s a (shifted b d)) ↔ (n < s)
-every-offset n s a b some ra rb = ((λ w. rule-past n s some (past w)), (λ h d. wide-enough n s a b d ra rb (past-rule n s h)))
+every-offset n s a b some ra rb = ((λ w. rule-past n s some .0 (past w)), (λ h d. wide-enough n s a b d ra rb (rule-past n s some .1 h)))
   where
     x : ℤ
     x = highEnd (lean a) (lean b) (ruleAt s) 0

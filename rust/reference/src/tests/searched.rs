@@ -72,40 +72,42 @@ impl Seen {
     }
 }
 
-#[test]
-fn every_smallest_jumper() {
+/// Holds the rule to `found`, a search, for all jumpers with columns from `first` to `last`, at
+/// separations 0 to 4 and offsets up to `reach`.
+fn rule_agrees(
+    (first, last): (i32, i32),
+    reach: i32,
+    found: fn(&[i32], &[i32], usize, i32) -> bool,
+) -> Seen {
     let mut seen = Seen::default();
-    for (a, b) in all_jumpers(-2, 2) {
+    for (a, b) in all_jumpers(first, last) {
         for s in 0..=4 {
-            for d in -4..=4 {
+            for d in -reach..=reach {
                 let fits = fit(&a, &b, s, d).refusal == 0;
-                let found = exists_wiring(&a, &b, s, d);
-                assert_eq!(fits, found, "{a:?} {b:?} at ({s}, {d})");
+                assert_eq!(fits, found(&a, &b, s, d), "{a:?} {b:?} at ({s}, {d})");
                 seen.note(fits);
             }
         }
     }
-    seen.enough(1_000, 1_000);
+    seen
+}
+
+#[test]
+fn every_smallest_jumper() {
+    rule_agrees((-2, 2), 4, exists_wiring).enough(1_000, 1_000);
 }
 
 /// The same by backtracking, which lays one wire after the other, on fewer columns.
 #[test]
 fn every_smallest_jumper_by_backtracking() {
-    let mut seen = Seen::default();
-    for (a, b) in all_jumpers(-1, 2) {
-        for s in 0..=4 {
-            for d in -2..=2 {
-                let found = find_wiring(&a, &b, s, d);
-                let fits = fit(&a, &b, s, d).refusal == 0;
-                assert_eq!(fits, found.is_some(), "{a:?} {b:?} at ({s}, {d})");
-                if let Some(wires) = found {
-                    assert!(legal_wires(&a, &b, s, d, &wires));
-                }
-                seen.note(fits);
-            }
+    let found = |a: &[i32], b: &[i32], s, d| match find_wiring(a, b, s, d) {
+        Some(wires) => {
+            assert!(legal_wires(a, b, s, d, &wires));
+            true
         }
-    }
-    seen.enough(500, 500);
+        None => false,
+    };
+    rule_agrees((-1, 2), 2, found).enough(500, 500);
 }
 
 /// At separation 0 a wire is one point, at 1 two, one above the other: straight either way.
