@@ -52,6 +52,16 @@ obrastyn_numbers obrastyn_draw_all(const int32_t *a, size_t an, const int32_t *b
 obrastyn_numbers obrastyn_check(const int32_t *a, size_t an, const int32_t *b, size_t bn, size_t s, int32_t d, const int32_t *table,
                                 size_t room);
 
+/* A part is a jumper with some of its pads left bare. `stays` has a byte for each pair: 0 for a pair that is dropped, anything else for one that stays.
+   Does the kept record, separation s at offset d, still serve the part? No refusal exactly when what remains has a legal wiring there; where the whole jumper
+   has one, it does. Refusal 1 if the three counts aren't equal, 2 if no pair stays, 3 to 7 of the whole rows; then 10, with `pair` and `side` as obrastyn_fit
+   shows them, but counted among the pairs that stay. Takes some 17,000 bytes of stack, for the pads that stay; all other calls take little. */
+obrastyn_numbers obrastyn_still_fits(const int32_t *a, size_t an, const int32_t *b, size_t bn, const uint8_t *stays, size_t sn, size_t s, int32_t d);
+/* The route of the part out of the old route's table: the wires that stay, one after the other, into (pairs that stay)(s + 1) places. Refusals 1 to 7 as
+   above; 9 if `table` has fewer than n(s + 1) places or `out` too few for the part; 16 as obrastyn_check says of the old table. */
+obrastyn_numbers obrastyn_part_route(const int32_t *a, size_t an, const int32_t *b, size_t bn, const uint8_t *stays, size_t sn, size_t s, int32_t d,
+                                     const int32_t *table, size_t places, int32_t *out, size_t room);
+
 /* Where the stretch at fault lies: row 0 is the bottom row, 1 the top row; no pads where there is no misfit, else s pads (one at separation 0). */
 typedef struct {
     uint8_t row;

@@ -10,6 +10,8 @@ ghost use Rattle.fit.specs.Offsets.{offsetsNumbers, offsetsAnswer, OffsetsAnswe
 ghost use Rattle.best.specs.Best.{bestNumbers, bestAnswer, ladderBy, ladderOf, BestAnswer};
 ghost use Rattle.route.specs.Draw.{wireRefusal, allRefusal, bufferAfter, wireDrawn, allDrawn, DrawWireAnswer, DrawAllAnswer};
 ghost use Rattle.route.specs.Check.{routeChecked, RouteCheck};
+ghost use Rattle.parts.specs.Still.{stillOf, StillAnswer};
+ghost use Rattle.parts.specs.Routed.{routedRefusal, partWritten, RoutedAnswer};
 ghost use Rattle.form.specs.Line.{LineAnswer};
 ghost use Rattle.catalog_c.specs.InNumbers.{InNumbers};
 use fit::stretch::Place;
@@ -110,6 +112,33 @@ pub extern "C" fn obrastyn_check(a: &[i32], b: &[i32], s: usize, d: i32, table: 
     ensures means { λ r. ⌜ InNumbers checkedNumbers (RouteCheck (now (a .entry)) (now (b .entry)) s d (now (table .entry))) r ⌝ }
 {
     route::checking::check_route(a, b, s, d, table).numbers()
+}
+
+// Whether the kept record still serves the part in which only the pairs stay whose byte isn't 0: refusals 1 to 7 and 10.
+#[no_mangle]
+pub extern "C" fn obrastyn_still_fits(a: &[i32], b: &[i32], stays: &[u8], s: usize, d: i32) -> Numbers
+    ensures answer { λ r. ⌜ r ≡ checkedNumbers (stillOf (now (a .entry)) (now (b .entry)) (now (stays .entry)) s d) ⌝ }
+    ensures means { λ r. ⌜ InNumbers checkedNumbers (StillAnswer (now (a .entry)) (now (b .entry)) (now (stays .entry)) s d) r ⌝ }
+{
+    parts::still::still_fits(a, b, stays, s, d).numbers()
+}
+
+// The route of such a part out of the old route's table: refusals 1 to 7, 9 and 16.
+#[no_mangle]
+pub extern "C" fn obrastyn_part_route(
+    a: &[i32],
+    b: &[i32],
+    stays: &[u8],
+    s: usize,
+    d: i32,
+    table: &[i32],
+    out: &mut [i32],
+) -> Numbers
+    ensures answer { λ r. ⌜ r ≡ checkedNumbers (routedRefusal (now (a .entry)) (now (b .entry)) (now (stays .entry)) s d (now (table .entry)) (length (now (out .entry)))) ⌝ }
+    ensures buffer { λ r. ⌜ now (out .exit) ≡ bufferAfter (routedRefusal (now (a .entry)) (now (b .entry)) (now (stays .entry)) s d (now (table .entry)) (length (now (out .entry)))) (partWritten (now (stays .entry)) s (now (table .entry)) (now (out .entry))) (now (out .entry)) ⌝ }
+    ensures means { λ r. ⌜ InNumbers checkedNumbers (RoutedAnswer (now (a .entry)) (now (b .entry)) (now (stays .entry)) s d (now (table .entry)) (now (out .entry)) (now (out .exit))) r ⌝ }
+{
+    parts::routed::part_route(a, b, stays, s, d, table, out).numbers()
 }
 
 // One record of an order form answered by value: LINE where its pads aren't in the pools, else what its wish is answered.

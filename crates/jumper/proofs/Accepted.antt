@@ -60,7 +60,7 @@ pub second : (t : Bool) (f : Refusal) (r : Checked) → pick t (Refused f) r ≡
 second true f r e = absurd (refused-not f e)
 second false f r e = (refl, e)
 
-first : (t : Bool) (r : Checked) (f : Refusal) → pick t r (Refused f) ≡ Accepted → (t ≡ true) × (r ≡ Accepted)
+pub first : (t : Bool) (r : Checked) (f : Refusal) → pick t r (Refused f) ≡ Accepted → (t ≡ true) × (r ≡ Accepted)
 first true r f e = (refl, e)
 first false r f e = absurd (refused-not f e)
 

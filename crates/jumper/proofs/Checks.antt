@@ -77,11 +77,11 @@ abbrev pub Early : ℕ → Checked → Type 0
 Early n Accepted = Unit {0}
 Early n (Refused r) = refusalNumbers r .refusal ≤ n
 
-early-pick : (n : ℕ) (t : Bool) (r s : Checked) → Early n r → Early n s → Early n (pick t r s)
+pub early-pick : (n : ℕ) (t : Bool) (r s : Checked) → Early n r → Early n s → Early n (pick t r s)
 early-pick n true r s h k = h
 early-pick n false r s h k = k
 
-early-or : (n : ℕ) (r s : Checked) → Early n r → Early n s → Early n (orElse r s)
+pub early-or : (n : ℕ) (r s : Checked) → Early n r → Early n s → Early n (orElse r s)
 early-or n Accepted s h k = k
 early-or n (Refused r) s h k = h
 

@@ -1,4 +1,4 @@
--- What the floors above cite: Theorem, Serves, Rule, Mirror, Halving, Build and Drawing. The others are the way there.
+-- What the floors above cite: Theorem, Serves, Rule, Mirror, Halving, Build, Drawing and Parts. The others are the way there.
 mod Walk
 mod Pigeon
 mod Diagonal
@@ -9,3 +9,4 @@ pub mod Drawing
 pub mod Theorem
 pub mod Mirror
 pub mod Halving
+pub mod Parts

@@ -118,6 +118,12 @@ mod raw {
         pub fn obrastyn_draw_wire(a: *const i32, an: usize, b: *const i32, bn: usize, s: usize, d: i32, wire: usize, out: *mut i32, room: usize) -> Numbers;
         pub fn obrastyn_draw_all(a: *const i32, an: usize, b: *const i32, bn: usize, s: usize, d: i32, out: *mut i32, room: usize) -> Numbers;
         pub fn obrastyn_check(a: *const i32, an: usize, b: *const i32, bn: usize, s: usize, d: i32, table: *const i32, room: usize) -> Numbers;
+        pub fn obrastyn_still_fits(a: *const i32, an: usize, b: *const i32, bn: usize, stays: *const u8, sn: usize, s: usize, d: i32) -> Numbers;
+        #[rustfmt::skip]
+        pub fn obrastyn_part_route(
+            a: *const i32, an: usize, b: *const i32, bn: usize, stays: *const u8, sn: usize, s: usize, d: i32,
+            table: *const i32, places: usize, out: *mut i32, room: usize,
+        ) -> Numbers;
         pub fn obrastyn_answer(line: Line, a: *const i32, an: usize, b: *const i32, bn: usize) -> Line;
         // The two calls over a table of records, from the archive of crate `form`.
         pub fn answer_line(table: *mut Line, lines: usize, k: usize, a: *const i32, an: usize, b: *const i32, bn: usize) -> u8;
@@ -175,6 +181,51 @@ pub fn draw_all(a: &[i32], b: &[i32], s: usize, d: i32, out: &mut [i32]) -> Numb
 /// a wrong start, a wrong end, a step aside on track 0, or a run that meets the next wire's.
 pub fn check(a: &[i32], b: &[i32], s: usize, d: i32, table: &[i32]) -> Numbers {
     unsafe { raw::obrastyn_check(a.as_ptr(), a.len(), b.as_ptr(), b.len(), s, d, table.as_ptr(), table.len()) }
+}
+
+/// Whether the kept record of a jumper, separation `s` at offset `d`, still serves the part in which only some pairs stay and the other pads are left bare.
+/// `stays` has a byte for each pair: 0 for one that is dropped, anything else for one that stays. No refusal exactly when what remains has a legal wiring there;
+/// where the whole jumper has one, it does.
+///
+/// UNEQUAL if `stays` isn't as long as the rows, EMPTY if no pair stays; 3 to 7 are of the whole rows, with places counted there. Then NOFIT, its witness
+/// counted among the pairs that stay.
+///
+/// ```
+/// // J needs 3 tracks at offset 0, and with pair 1 bare these still do
+/// let (below, above) = ([0, 1, 4, 5], [1, 2, 3, 4]);
+/// let stays = [1, 0, 1, 1];
+/// assert_eq!(obrastyn::still_fits(&below, &above, &stays, 3, 0).refusal, 0);
+/// // 2 don't: NOFIT. Pads 1 and 2 of the part prevent it, which are J's 2 and 3; side LEFT
+/// let told = obrastyn::still_fits(&below, &above, &stays, 2, 0);
+/// assert_eq!((told.refusal, told.pair, told.side), (10, 1, 2));
+/// // at offset 1 two tracks do for the part, but not for J
+/// assert_eq!(obrastyn::still_fits(&below, &above, &stays, 2, 1).refusal, 0);
+/// assert_eq!(obrastyn::fit(&below, &above, 2, 1).refusal, 10);
+/// ```
+pub fn still_fits(a: &[i32], b: &[i32], stays: &[u8], s: usize, d: i32) -> Numbers {
+    unsafe { raw::obrastyn_still_fits(a.as_ptr(), a.len(), b.as_ptr(), b.len(), stays.as_ptr(), stays.len(), s, d) }
+}
+
+/// The route of such a part out of the old route's table: the wires that stay, one after the other, into the first (pairs that stay)(s + 1) places of `out`. It
+/// is a legal route of the part, though not always the one that [`draw_all`] would draw for it. Refusals 1 to 7 as for [`still_fits`]; BUFFER if `table` has
+/// fewer than n(s + 1) places or `out` too few for the part; BADWIRE as [`check`] says of the old table, with the wire's number there.
+///
+/// ```
+/// let (below, above) = ([0, 1, 4, 5], [1, 2, 3, 4]);
+/// let old = [0, 0, 0, 1, 1, 1, 2, 2, 4, 4, 3, 3, 5, 5, 5, 4];
+/// let mut route = [0; 3 * 4];
+/// assert_eq!(obrastyn::part_route(&below, &above, &[1, 0, 1, 1], 3, 0, &old, &mut route).refusal, 0);
+/// assert_eq!(route, [0, 0, 0, 1, 4, 4, 3, 3, 5, 5, 5, 4]);
+/// assert_eq!(obrastyn::check(&[0, 4, 5], &[1, 3, 4], 3, 0, &route).refusal, 0);
+/// ```
+pub fn part_route(a: &[i32], b: &[i32], stays: &[u8], s: usize, d: i32, table: &[i32], out: &mut [i32]) -> Numbers {
+    let (places, room) = (table.len(), out.len());
+    unsafe {
+        raw::obrastyn_part_route(
+            a.as_ptr(), a.len(), b.as_ptr(), b.len(), stays.as_ptr(), stays.len(), s, d,
+            table.as_ptr(), places, out.as_mut_ptr(), room,
+        )
+    }
 }
 
 /// One record answered by value: the record with its answer, its order as it was.

@@ -1,8 +1,8 @@
 //! The proved library against the reference, which was written from documents 01 and 02 alone: random rows and tables, small and at
 //! the limits, valid and damaged. Lent buffers stand between sentinels, and what lies beyond must be untouched.
 use obrastyn::{Numbers, MOST_TRACKS};
-use reference::random::{any_rows, offset, rows, separation, Random};
-use reference::{halving, rule, wires};
+use reference::random::{any_rows, any_stays, offset, rows, separation, Random};
+use reference::{halving, parts, rule, wires};
 
 fn same(theirs: reference::numbers::Numbers) -> Numbers {
     Numbers {
@@ -103,7 +103,19 @@ fn larger_drawings() {
     drawings(&mut Random::new(5), 60, 3_000);
 }
 
-/// Tables that were drawn, drawn and then damaged, and made up; with columns far out too.
+/// A table damaged at a few places, with columns far out too.
+fn damage(random: &mut Random, table: &mut [i32]) {
+    for _ in 0..1 + random.below(3) {
+        let at = random.below(table.len());
+        table[at] = match random.below(6) {
+            0 => i32::MIN,
+            1 => i32::MAX,
+            _ => table[at].wrapping_add(random.between(-2, 2)),
+        };
+    }
+}
+
+/// Tables that were drawn, drawn and then damaged, and made up.
 fn tables(random: &mut Random, most: usize, rounds: usize) {
     for round in 0..rounds {
         let (a, b) = if random.once_in(12) { any_rows(random, most) } else { rows(random, most) };
@@ -114,14 +126,7 @@ fn tables(random: &mut Random, most: usize, rounds: usize) {
         let mut table = vec![0; places + random.below(3)];
         wires::draw_all(&a, &b, s, d, &mut table);
         if !table.is_empty() && !random.once_in(4) {
-            for _ in 0..1 + random.below(3) {
-                let at = random.below(table.len());
-                table[at] = match random.below(6) {
-                    0 => i32::MIN,
-                    1 => i32::MAX,
-                    _ => table[at].wrapping_add(random.between(-2, 2)),
-                };
-            }
+            damage(random, &mut table);
         }
         if random.once_in(30) {
             table.pop();
@@ -143,6 +148,51 @@ fn small_tables() {
 #[test]
 fn larger_tables() {
     tables(&mut Random::new(7), 60, 5_000);
+}
+
+/// Parts of jumpers: bytes of another length, none that stays, tables that are damaged or too short, buffers that are too short.
+fn some_parts(random: &mut Random, most: usize, rounds: usize) {
+    for round in 0..rounds {
+        let (a, b) = if random.once_in(8) { any_rows(random, most) } else { rows(random, most) };
+        let stays = any_stays(random, a.len());
+        let d = offset(random, &a, &b);
+        let s = match random.below(4) {
+            0 => separation(random, a.len()).min(MOST_TRACKS + 1),
+            _ => (rule::least(&a, &b, d).separation + random.below(2)).saturating_sub(random.below(3)),
+        };
+        let what = || format!("round {round}: {a:?} {b:?} stays {stays:?} s {s} d {d}");
+        assert_eq!(obrastyn::still_fits(&a, &b, &stays, s, d), told(parts::still_fits(&a, &b, &stays, s, d), false, false), "still fits, {}", what());
+        let mut table = vec![0; (a.len() * (s + 1)).min(40_000)];
+        wires::draw_all(&a, &b, s, d, &mut table);
+        if !table.is_empty() && random.once_in(3) {
+            damage(random, &mut table);
+        }
+        if random.once_in(30) {
+            table.pop();
+        }
+        let left = stays.iter().filter(|&&byte| byte != 0).count();
+        let room = ((left * (s + 1)).min(40_000) + random.below(4)).saturating_sub(if random.once_in(6) { 3 } else { 0 });
+        let mut ours = vec![SENTINEL; room];
+        let mut theirs = ours.clone();
+        let routed = obrastyn::part_route(&a, &b, &stays, s, d, &table, &mut ours);
+        assert_eq!(routed, told(parts::part_route(&a, &b, &stays, s, d, &table, &mut theirs), true, true), "route, {} {table:?}", what());
+        assert_eq!(ours, theirs, "places, {} {table:?}", what());
+    }
+}
+
+#[test]
+fn small_parts() {
+    some_parts(&mut Random::new(9), 7, 300_000);
+}
+
+#[test]
+fn larger_parts() {
+    some_parts(&mut Random::new(10), 60, 8_000);
+}
+
+#[test]
+fn parts_at_the_limits() {
+    some_parts(&mut Random::new(11), 2049, 60);
 }
 
 /// A form over shared pools: lines that overlap, lines with damaged starts, counts and wishes, too many lines.

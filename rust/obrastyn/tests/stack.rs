@@ -67,6 +67,22 @@ fn best_takes_less_than_4096_bytes() {
     });
 }
 
+/// The pads that stay are written side by side into two rows of 2,048 columns (docs/DECISIONS.md, 41); all else that the call takes is little.
+#[test]
+fn still_fits_takes_two_rows_and_little_more() {
+    in_thread(|| {
+        for n in [1, 64, 2048] {
+            let (a, b) = rows(n);
+            let stays = vec![1; n];
+            let bytes = taken(|| {
+                black_box(obrastyn::still_fits(black_box(&a), black_box(&b), black_box(&stays), 3, 0));
+            });
+            println!("still_fits, {n} pairs: {bytes} bytes");
+            assert!(bytes < 2 * 2048 * 4 + 1024);
+        }
+    });
+}
+
 /// Of the measure itself: optimised, as this workspace builds its tests, a function with an array of 10,000 bytes takes little more.
 #[test]
 fn what_a_painted_stack_shows() {

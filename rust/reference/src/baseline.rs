@@ -79,10 +79,16 @@ fn check_offset(d: i32) -> Result<(), Numbers> {
     Ok(())
 }
 
-fn check_fit(a: &[i32], b: &[i32], s: usize, d: i32) -> Result<(), Numbers> {
+/// Check 10 and, where it is passed, the numbers of a fit.
+fn check_fit(a: &[i32], b: &[i32], s: usize, d: i32) -> Result<Numbers, Numbers> {
     let r = rule_at(s);
     if r >= a.len() || ends(a, b, r, 1).holds(d) {
-        return Ok(());
+        return Ok(Numbers {
+            separation: s,
+            lowest: d,
+            highest: d,
+            ..Numbers::default()
+        });
     }
     Err(misfit(a, b, r, d))
 }
@@ -143,13 +149,7 @@ fn try_fit(a: &[i32], b: &[i32], s: usize, d: i32) -> Result<Numbers, Numbers> {
     check_rows(a, b)?;
     check_separation(s)?;
     check_offset(d)?;
-    check_fit(a, b, s, d)?;
-    Ok(Numbers {
-        separation: s,
-        lowest: d,
-        highest: d,
-        ..Numbers::default()
-    })
+    check_fit(a, b, s, d)
 }
 
 /// The least separation at d, in one pass. What meets the rule at r meets it at r + 1, so r only ever
@@ -467,6 +467,11 @@ fn try_check(a: &[i32], b: &[i32], s: usize, d: i32, table: &[i32]) -> Result<Nu
     check_rows(a, b)?;
     check_separation(s)?;
     check_offset(d)?;
+    check_table(a, b, s, d, table)
+}
+
+/// Checks 9 and 16, for inputs that passed 1 to 7.
+fn check_table(a: &[i32], b: &[i32], s: usize, d: i32, table: &[i32]) -> Result<Numbers, Numbers> {
     let width = s + 1;
     let n = a.len();
     let Some(table) = table.get(..n * width) else {
@@ -515,6 +520,85 @@ fn first_meeting(wire: &[i32], next: &[i32], tracks: usize) -> Option<usize> {
     } else {
         None
     }
+}
+
+// ---------------------------------------------------------------------------------------------
+// Parts of a jumper
+// ---------------------------------------------------------------------------------------------
+
+/// Checks 1 to 7 of a part; how many pairs stay.
+fn check_part(a: &[i32], b: &[i32], stays: &[u8], s: usize, d: i32) -> Result<usize, Numbers> {
+    if a.len() != b.len() || a.len() != stays.len() {
+        return Err(Numbers::refused(UNEQUAL));
+    }
+    let kept = stays.iter().filter(|&&stay| stay != 0).count();
+    if kept == 0 {
+        return Err(Numbers::refused(EMPTY));
+    }
+    check_rows(a, b)?;
+    check_separation(s)?;
+    check_offset(d)?;
+    Ok(kept)
+}
+
+/// Whether (s, d) still fits when only some pairs stay.
+pub fn still_fits(a: &[i32], b: &[i32], stays: &[u8], s: usize, d: i32) -> Numbers {
+    flat(try_still_fits(a, b, stays, s, d))
+}
+
+fn try_still_fits(
+    a: &[i32],
+    b: &[i32],
+    stays: &[u8],
+    s: usize,
+    d: i32,
+) -> Result<Numbers, Numbers> {
+    let kept = check_part(a, b, stays, s, d)?;
+    // Every pad is written and only those kept move the place on, so that no branch goes wrong.
+    let (mut part_a, mut part_b) = ([0; MOST_PAIRS], [0; MOST_PAIRS]);
+    let mut place = 0;
+    for ((&a, &b), &stay) in a.iter().zip(b).zip(stays) {
+        part_a[place] = a;
+        part_b[place] = b;
+        place += (stay != 0) as usize;
+    }
+    check_fit(&part_a[..kept], &part_b[..kept], s, d)
+}
+
+/// The route of the part, from the old one.
+pub fn part_route(
+    a: &[i32],
+    b: &[i32],
+    stays: &[u8],
+    s: usize,
+    d: i32,
+    table: &[i32],
+    out: &mut [i32],
+) -> Numbers {
+    flat(try_part_route(a, b, stays, s, d, table, out))
+}
+
+fn try_part_route(
+    a: &[i32],
+    b: &[i32],
+    stays: &[u8],
+    s: usize,
+    d: i32,
+    table: &[i32],
+    out: &mut [i32],
+) -> Result<Numbers, Numbers> {
+    let kept = check_part(a, b, stays, s, d)?;
+    let width = s + 1;
+    let Some(out) = out.get_mut(..kept * width) else {
+        return Err(Numbers::refused(BUFFER));
+    };
+    check_table(a, b, s, d, table)?;
+    let wires = table.chunks_exact(width).zip(stays);
+    let wires_kept = wires.filter(|(_, &stay)| stay != 0);
+    for (place, (wire, _)) in out.chunks_exact_mut(width).zip(wires_kept) {
+        place.copy_from_slice(wire);
+    }
+    Ok(Numbers::default())
 }
 
 // ---------------------------------------------------------------------------------------------

@@ -12,6 +12,7 @@
 //! | [`rule`] | numbers of the rule; fit and witness, least separation, offset range, stretch at fault |
 //! | [`halving`] | best separation: by trial, and by the halving rule with ladder and count |
 //! | [`wires`] | drawing, the checker, legality over grid points |
+//! | [`parts`] | request 113: whether a part of a jumper still fits, and its route from the old one |
 //! | [`search`] | whether a legal wiring exists, found without the rule |
 //! | [`form`] | records, one line, all lines |
 //! | [`sheet`] | frames and the whole machine |
@@ -25,6 +26,7 @@ pub mod form;
 pub mod halving;
 pub mod longsheets;
 pub mod numbers;
+pub mod parts;
 pub mod random;
 pub mod rows;
 pub mod rule;
@@ -39,6 +41,7 @@ mod tests;
 pub use form::{answer_form, answer_line, answer_wish, Record, Wish};
 pub use halving::{best, best_by_trial, best_with_ladder};
 pub use numbers::{Numbers, Range};
+pub use parts::{part_route, still_fits};
 pub use rows::accept_rows;
 pub use rule::{fit, least, range, stretch, stretch_part, Stretch};
 pub use sheet::answer_sheet;

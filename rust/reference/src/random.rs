@@ -236,6 +236,50 @@ pub fn any_rows(random: &mut Random, most: usize) -> (Vec<i32>, Vec<i32>) {
     (a, b)
 }
 
+/// Which of n pairs stay, a byte each: 0 dropped, anything else kept. At least one stays if there is
+/// one; often all but one, one alone, all but a stretch, or all.
+pub fn stays(random: &mut Random, n: usize) -> Vec<u8> {
+    if n == 0 {
+        return Vec::new();
+    }
+    let (one, other) = (random.below(n), random.below(n));
+    let (first, last) = (one.min(other), one.max(other));
+    let shape = random.below(8);
+    let odds = 1 + random.below(4);
+    let mut stays: Vec<u8> = (0..n)
+        .map(|i| {
+            let stay = match shape {
+                0 => i != one,
+                1 => i == one,
+                2 => i < first || i > last,
+                3 => true,
+                4 => i + 1 < n,
+                _ => random.below(5) >= odds,
+            };
+            if stay {
+                random.pick(&[1, 1, 2, 127, 128, 255])
+            } else {
+                0
+            }
+        })
+        .collect();
+    if stays.iter().all(|&stay| stay == 0) {
+        stays[other] = 1;
+    }
+    stays
+}
+
+/// The same as a careless caller might hand it in: now and then of another length or with none kept.
+pub fn any_stays(random: &mut Random, n: usize) -> Vec<u8> {
+    match random.below(16) {
+        0 => stays(random, n + 1),
+        1 => stays(random, n.saturating_sub(1)),
+        2 => vec![0; n],
+        3 => vec![0; n + 1],
+        _ => stays(random, n),
+    }
+}
+
 /// A separation: mostly up to a little over n, often at one of the ends of what the rows may need,
 /// now and then at and beyond the limit.
 pub fn separation(random: &mut Random, n: usize) -> usize {

@@ -112,7 +112,13 @@ pub fn check(a: &[i32], b: &[i32], s: usize, d: i32, table: &[i32]) -> Numbers {
     flat(try_check(a, b, s, d, table))
 }
 
-fn try_check(a: &[i32], b: &[i32], s: usize, d: i32, table: &[i32]) -> Result<Numbers, Numbers> {
+pub(crate) fn try_check(
+    a: &[i32],
+    b: &[i32],
+    s: usize,
+    d: i32,
+    table: &[i32],
+) -> Result<Numbers, Numbers> {
     check_rows(a, b)?;
     check_separation(s)?;
     check_offset(d)?;

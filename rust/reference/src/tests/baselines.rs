@@ -1,11 +1,10 @@
 //! The baselines give the very same numbers and leave the very same memory.
 
 use super::forms::random_form;
+use super::MARK;
 use crate::numbers::{Numbers, LAST_OFFSET};
 use crate::random::*;
-use crate::{baseline, form, halving, rows, rule, wires};
-
-const MARK: i32 = 0x5A5A_5A5A;
+use crate::{baseline, form, halving, parts, rows, rule, wires};
 
 fn same_on(random: &mut Random, a: &[i32], b: &[i32], s: usize, d: i32) {
     assert_eq!(baseline::accept_rows(a, b), rows::accept_rows(a, b));
@@ -44,10 +43,7 @@ fn same_on(random: &mut Random, a: &[i32], b: &[i32], s: usize, d: i32) {
     assert_eq!(ours, theirs);
 
     // Check what was drawn, and then what isn't quite that.
-    assert_eq!(
-        baseline::check(a, b, s, d, &theirs),
-        wires::check(a, b, s, d, &theirs)
-    );
+    same_on_table(random, a, b, s, d, &theirs);
     for _ in 0..4 {
         if theirs.is_empty() {
             break;
@@ -58,11 +54,30 @@ fn same_on(random: &mut Random, a: &[i32], b: &[i32], s: usize, d: i32) {
             1 => theirs[random.below(place + 1)],
             _ => theirs[place].wrapping_add(random.between(-3, 3)),
         };
-        assert_eq!(
-            baseline::check(a, b, s, d, &theirs),
-            wires::check(a, b, s, d, &theirs)
-        );
+        same_on_table(random, a, b, s, d, &theirs);
     }
+}
+
+/// The checker, and the calls on a part of the jumper.
+fn same_on_table(random: &mut Random, a: &[i32], b: &[i32], s: usize, d: i32, table: &[i32]) {
+    assert_eq!(
+        baseline::check(a, b, s, d, table),
+        wires::check(a, b, s, d, table)
+    );
+
+    let stays = any_stays(random, a.len());
+    assert_eq!(
+        baseline::still_fits(a, b, &stays, s, d),
+        parts::still_fits(a, b, &stays, s, d)
+    );
+    let kept = stays.iter().filter(|&&stay| stay != 0).count();
+    let room = (kept * (s.min(3_000) + 1) + 3).saturating_sub(random.below(5));
+    let (mut ours, mut theirs) = (vec![MARK; room], vec![MARK; room]);
+    assert_eq!(
+        baseline::part_route(a, b, &stays, s, d, table, &mut ours),
+        parts::part_route(a, b, &stays, s, d, table, &mut theirs)
+    );
+    assert_eq!(ours, theirs);
 }
 
 #[test]

@@ -2,6 +2,7 @@
 
 mod baselines;
 mod forms;
+mod parts;
 mod refusals;
 mod searched;
 mod separations;
@@ -10,6 +11,9 @@ mod wiring;
 mod worked;
 
 use crate::numbers::Numbers;
+
+/// What lent memory holds before a call: no column that is ever drawn.
+pub const MARK: i32 = 0x5A5A_5A5A;
 
 /// J, K and S of the text.
 pub const J: ([i32; 4], [i32; 4]) = ([0, 1, 4, 5], [1, 2, 3, 4]);

@@ -5,8 +5,6 @@ use crate::numbers::*;
 use crate::random::*;
 use crate::*;
 
-const MARK: i32 = 0x5A5A_5A5A;
-
 #[test]
 fn rows_by_number() {
     let long: Vec<i32> = (0..2_049).rev().collect();

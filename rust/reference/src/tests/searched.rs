@@ -10,7 +10,7 @@ use crate::search::*;
 use crate::*;
 
 /// Every rising row of n columns from `first` to `last`.
-fn all_rows(n: usize, first: i32, last: i32) -> Vec<Vec<i32>> {
+pub fn all_rows(n: usize, first: i32, last: i32) -> Vec<Vec<i32>> {
     let mut found = vec![vec![]];
     for _ in 0..n {
         let mut longer = Vec::new();
@@ -27,7 +27,7 @@ fn all_rows(n: usize, first: i32, last: i32) -> Vec<Vec<i32>> {
 }
 
 /// A rising row of n columns from `first` to `last`.
-fn small_row(random: &mut Random, n: usize, first: i32, last: i32) -> Vec<i32> {
+pub fn small_row(random: &mut Random, n: usize, first: i32, last: i32) -> Vec<i32> {
     loop {
         let mut row: Vec<i32> = (0..n).map(|_| random.between(first, last)).collect();
         row.sort();
@@ -39,7 +39,7 @@ fn small_row(random: &mut Random, n: usize, first: i32, last: i32) -> Vec<i32> {
 }
 
 /// Every pair of rows of one to three columns from `first` to `last`.
-fn all_jumpers(first: i32, last: i32) -> Vec<(Vec<i32>, Vec<i32>)> {
+pub fn all_jumpers(first: i32, last: i32) -> Vec<(Vec<i32>, Vec<i32>)> {
     let mut found = Vec::new();
     for n in 1..=3 {
         for a in all_rows(n, first, last) {
@@ -53,13 +53,13 @@ fn all_jumpers(first: i32, last: i32) -> Vec<(Vec<i32>, Vec<i32>)> {
 
 /// How many questions had a wiring and how many had none, so that a test can say it saw both.
 #[derive(Default)]
-struct Seen {
+pub struct Seen {
     fitting: usize,
     misfits: usize,
 }
 
 impl Seen {
-    fn note(&mut self, fits: bool) {
+    pub fn note(&mut self, fits: bool) {
         *(if fits {
             &mut self.fitting
         } else {
@@ -67,7 +67,7 @@ impl Seen {
         }) += 1;
     }
 
-    fn enough(&self, fitting: usize, misfits: usize) {
+    pub fn enough(&self, fitting: usize, misfits: usize) {
         assert!(self.fitting > fitting && self.misfits > misfits);
     }
 }

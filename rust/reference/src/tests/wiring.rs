@@ -7,7 +7,7 @@ use crate::wires::*;
 
 /// Rows whose columns lie near each other and near the datum, on either side of it or on both, so
 /// that walking every point is cheap.
-fn near_rows(random: &mut Random, most: usize) -> (Vec<i32>, Vec<i32>) {
+pub fn near_rows(random: &mut Random, most: usize) -> (Vec<i32>, Vec<i32>) {
     let n = 1 + random.below(most);
     let start = -random.between(0, 3 * n as i32);
     let mut row = || -> Vec<i32> {
@@ -20,6 +20,23 @@ fn near_rows(random: &mut Random, most: usize) -> (Vec<i32>, Vec<i32>) {
             .collect()
     };
     (row(), row())
+}
+
+/// Changes a table at one place or two, to columns still near the datum.
+pub fn change(random: &mut Random, table: &mut [i32]) {
+    let place = random.below(table.len());
+    match random.below(4) {
+        0 => table[place] += random.pick(&[-1, 1]),
+        1 => table[place] = random.between(-30, 40),
+        2 => {
+            let other = random.below(table.len());
+            table.swap(place, other);
+        }
+        _ => {
+            let other = random.below(table.len());
+            table[place] = table[other];
+        }
+    }
 }
 
 #[test]
@@ -89,19 +106,7 @@ fn checker_equals_legality_on_mutated_tables() {
         let mut table = vec![0; a.len() * (s + 1)];
         draw_all(&a, &b, s, d, &mut table);
         for _ in 0..random.below(4) {
-            let place = random.below(table.len());
-            match random.below(4) {
-                0 => table[place] += random.pick(&[-1, 1]),
-                1 => table[place] = random.between(-30, 40),
-                2 => {
-                    let other = random.below(table.len());
-                    table.swap(place, other);
-                }
-                _ => {
-                    let other = random.below(table.len());
-                    table[place] = table[other];
-                }
-            }
+            change(&mut random, &mut table);
         }
         let legal = legal_table(&a, &b, s, d, &table);
         assert_eq!(check(&a, &b, s, d, &table).refusal == 0, legal);

@@ -1,0 +1,69 @@
+-- THE WIRES THAT STAY, as the loop writes them: those of the first i pairs that stay in what was out₀, and the next to read is wire i. And a row of pads as a table
+-- over no track.
+use mathlib.Core.Path.{_≡_, refl, sym, ap, _∙_}
+use mathlib.Core.List.{List, [], _∷_, _++_}
+use mathlib.Core.Logic.{_≢_}
+use Prim.Native.Nat.{ℕ, zero, suc, _+_, _-_, _*_, _≤_, _<_}
+use native.Mathlib.Nat.{suc-mul}
+use native.Mathlib.Numerals.{add-one}
+use native.Mathlib.Omega.{arith}
+use lib.ListN.{length, getD, take, drop}
+use lib.IntN.{ℤ, pos}
+use Rattle.wiring.specs.Wiring.{pad}
+use Rattle.wiring.specs.Part.{pairOf, partOf}
+use Rattle.route.specs.Table.{columnIn, columns, wires}
+use Rattle.route.proofs.Places.{columns-same, place-in, put, Drawn, drawn-none, drawn-all, drawn-room, drawn-part, drawn-next}
+use Rattle.parts.specs.Stays.{keptAmong, kept, wiresLeft}
+use Rattle.parts.proofs.Keeping.{count-same, count-more, kept-none, kept-room, kept-pair}
+
+-- the wires that stay, by their number in the part
+abbrev pub left : (stays : List ℕ) (s : ℕ) (table : List ℤ) → ℕ → ℕ → ℤ
+left stays s table i = columnIn table s (pairOf (kept stays) i)
+
+pub record Held (stays : List ℕ) (s : ℕ) (table out₀ : List ℤ) (from at i : ℕ) (out : List ℤ) : Type 0 where
+  pub next : from ≡ i * (s + 1)
+  pub written : Drawn (left stays s table) s (length (kept stays)) out₀ (length (keptAmong stays i)) at out
+
+module _ (stays : List ℕ) (s : ℕ) (table out₀ : List ℤ) where
+  pub held-none : Held stays s table out₀ 0 0 0 out₀
+  held-none = record { next = omega arith; written = rw (kept-none stays) (drawn-none (left stays s table) s (length (kept stays)) out₀) }
+
+  pub held-all : (from at i : ℕ) (out : List ℤ) → i ≡ length stays → Held stays s table out₀ from at i out
+      → out ≡ wiresLeft stays s table ++ drop (length (kept stays) * (s + 1)) out₀
+  held-all from at i out e h =
+      drawn-all (left stays s table) s (length (kept stays)) out₀ (length (keptAmong stays i)) at out (ap (λ (n : ℕ). length (keptAmong stays n)) e) (h .written)
+
+  module _ (from at i : ℕ) (out : List ℤ) (lt : i < length stays) (h : Held stays s table out₀ from at i out) where
+    -- wire i is there to be read
+    pub held-read : length stays * (s + 1) ≤ length table → from + (s + 1) ≤ length table
+    held-read room = omega (arith, h .next, place-in (length stays) s i s lt (omega arith))
+
+    after : from + (s + 1) ≡ (i + 1) * (s + 1)
+    after = rw (add-one i) (omega (arith, h .next, suc-mul i (s + 1)))
+
+    pub held-dropped : getD stays i 0 ≡ 0 → Held stays s table out₀ (from + (s + 1)) at (i + 1) out
+    held-dropped e = record { next = after; written = rw (count-same stays i e) (h .written) }
+
+    module _ (byte : getD stays i 0 ≢ 0) (room : length (kept stays) * (s + 1) ≤ length out₀) where
+      fewer : length (keptAmong stays i) < length (kept stays)
+      fewer = kept-room stays (length stays) i lt byte
+
+      pub held-room : at + (s + 1) ≤ length out₀
+      held-room = drawn-room (left stays s table) s (length (kept stays)) out₀ (length (keptAmong stays i)) at out fewer room (h .written)
+
+      pub held-part : s < length (take (length out - at) (drop at out))
+      held-part = drawn-part (left stays s table) s (length (kept stays)) out₀ (length (keptAmong stays i)) at out fewer room (h .written)
+
+      -- what was copied is the wire of the next pair that stays
+      copied : columns (λ t. pad table (from + t)) (s + 1) ≡ columns (left stays s table (length (keptAmong stays i))) (s + 1)
+      unfolding columnIn
+      copied =
+          let there : pairOf (kept stays) (length (keptAmong stays i)) ≡ i = kept-pair stays (length stays) i lt byte in
+          columns-same (λ t. pad table (from + t)) (left stays s table (length (keptAmong stays i))) (s + 1) (λ t l. rw (there, h .next))
+
+      pub held-stays : (ys : List ℤ) → ys ≡ columns (λ t. pad table (from + t)) (s + 1) ++ drop (s + 1) (take (length out - at) (drop at out))
+          → Held stays s table out₀ (from + (s + 1)) (at + (s + 1)) (i + 1) (put at out ys)
+      held-stays ys e =
+          let f = e ∙ ap (λ (xs : List ℤ). xs ++ drop (s + 1) (take (length out - at) (drop at out))) copied in
+          let g = drawn-next (left stays s table) s (length (kept stays)) out₀ (length (keptAmong stays i)) at out fewer room (h .written) ys f in
+          record { next = after; written = rw (count-more stays i byte) g }

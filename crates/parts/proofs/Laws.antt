@@ -1,0 +1,93 @@
+-- WHAT THE CALLS ANSWER of a jumper and of a part of it (02, #113): neither the least nor the best separation rises when pairs are dropped, and a pair added after the
+-- last raises each by two at most. Said of any answers of `least_at` and `best_of`, by their promises.
+use mathlib.Core.Path.{_≡_}
+use mathlib.Core.List.{List}
+use Prim.Native.Nat.{ℕ, zero, suc, _+_, _≤_, _<_}
+use native.Mathlib.Decide.{decLt}
+use native.Mathlib.Omega.{arith}
+use lib.ListN.{length}
+use lib.IntN.{ℤ}
+use Rattle.whole.proofs.Arith.{up, down, arithℤ}
+use Rattle.wiring.specs.Wiring.{HasWiring}
+use Rattle.wiring.specs.Tracks.{ruleAt}
+use Rattle.wiring.specs.Part.{Choice, partOf, longer}
+use Rattle.wiring.proofs.Serves.{rule-above, rule-most, rule-next, rule-up}
+use Rattle.wiring.proofs.Parts.{dropped-wiring, shorter-wiring, added-wiring}
+use Rattle.jumper.specs.Rows.{AcceptedRows}
+use Rattle.jumper.specs.Asked.{AcceptedShift}
+use Rattle.fit.specs.Least.{leastNumbers, LeastAnswer}
+use Rattle.fit.specs.declared.least.Least.{Least}
+use Rattle.best.specs.Best.{bestNumbers, BestAnswer}
+use Rattle.best.specs.declared.plan.Best.{Best}
+use Rattle.parts.specs.Grows.{Grows}
+use Rattle.parts.proofs.Left.{left-rows}
+
+-- A LEAST SEPARATION, of which no smaller one has what it has
+not-above : (Has : ℕ → Type 0) (m n : ℕ) → ((t : ℕ) → t < m → Has t → ⊥) → Has n → m ≤ n
+not-above Has m n least there = go (decLt n m)
+  where
+    go : Dec (n < m) → m ≤ n
+    go (yes h) = absurd (least n h there)
+    go (no h) = omega arith
+
+grows : (before after : ℕ) → before ≤ after → after ≤ suc (suc (ruleAt before)) → Grows before after
+grows before after low high =
+    record {
+      lower = low;
+      two = omega (arith, rule-most before);
+      inside = omega (arith, rule-up after (suc (suc (ruleAt before))) high, rule-next (suc (ruleAt before)));
+      one = λ h. omega (arith, rule-above before h);
+    }
+
+-- at a best separation some offset has a wiring: the lowest that is named
+best-there : {a b : List ℤ} {before after : List ℕ} {r : Best} → BestAnswer a b before after r → bestNumbers r .refusal ≡ 0
+    → (d : ℤ) × HasWiring a b (bestNumbers r .separation) d
+best-there {r = r} p z = (bestNumbers r .lowest, p .exactly z (bestNumbers r .lowest) .1 (record { low = omega arithℤ; high = p .some z }))
+
+-- PAIRS DROPPED
+module _ {a b : List ℤ} {kept : List ℕ} (c : Choice (length a) kept) (some : 1 ≤ length kept) where
+  -- an accepted question about the rows is an accepted question about the rows left
+  pub least-asked : {d : ℤ} → AcceptedShift a b d → AcceptedShift (partOf kept a) (partOf kept b) d
+  least-asked k = record { rows = left-rows (k .rows) c some; offset = k .offset }
+
+  pub least-dropped : {d : ℤ} {r r′ : Least} → LeastAnswer a b d r → LeastAnswer (partOf kept a) (partOf kept b) d r′ → leastNumbers r .refusal ≡ 0
+      → (leastNumbers r′ .refusal ≡ 0) × (leastNumbers r′ .separation ≤ leastNumbers r .separation)
+  least-dropped {d} {r} {r′} p q z =
+      let z′ = q .accepts .1 (least-asked (p .accepts .0 z)) in
+      (z′, not-above (λ t. HasWiring (partOf kept a) (partOf kept b) t d) _ _ (q .least z′) (dropped-wiring a b c _ d (p .fits z)))
+
+  -- the ladder is written where there is room for it, so both answers must not be BUFFER
+  pub best-dropped : {before after before′ after′ : List ℕ} {r r′ : Best} → BestAnswer a b before after r → BestAnswer (partOf kept a) (partOf kept b) before′ after′ r′
+      → bestNumbers r .refusal ≡ 0 → bestNumbers r′ .refusal ≡ 0 → bestNumbers r′ .separation ≤ bestNumbers r .separation
+  best-dropped p q z z′ =
+      let there = best-there p z in
+      not-above (λ t. (d : ℤ) × HasWiring (partOf kept a) (partOf kept b) t d) _ _ (λ t h w. q .none z′ t h (w .0) (w .1)) (there .0, dropped-wiring a b c _ (there .0) (there .1))
+
+-- A PAIR ADDED AFTER THE LAST, at column x below and y above
+module _ (a b : List ℤ) (x y : ℤ) where
+  module _ (r : AcceptedRows a b) (l : AcceptedRows (longer a x) (longer b y)) where
+    more : (s : ℕ) (d : ℤ) → HasWiring a b s d → HasWiring (longer a x) (longer b y) (suc (suc (ruleAt s))) d
+    more s d = added-wiring a b x y (r .equal) (l .bottom .rising) (rw (← l .equal) at (l .top .rising)) s d
+
+    fewer : (s : ℕ) (d : ℤ) → HasWiring (longer a x) (longer b y) s d → HasWiring a b s d
+    fewer s d = shorter-wiring a b x y (r .equal) s d
+
+  pub least-added : {d : ℤ} {p q : Least} → LeastAnswer a b d p → LeastAnswer (longer a x) (longer b y) d q → leastNumbers p .refusal ≡ 0 → leastNumbers q .refusal ≡ 0
+      → Grows (leastNumbers p .separation) (leastNumbers q .separation)
+  least-added {d} f g z z′ =
+      let r = f .accepts .0 z .rows in
+      let l = g .accepts .0 z′ .rows in
+      grows _ _
+      (not-above (λ t. HasWiring a b t d) _ _ (f .least z) (fewer r l _ d (g .fits z′)))
+      (not-above (λ t. HasWiring (longer a x) (longer b y) t d) _ _ (g .least z′) (more r l _ d (f .fits z)))
+
+  pub best-added : {before after before′ after′ : List ℕ} {p q : Best} → BestAnswer a b before after p → BestAnswer (longer a x) (longer b y) before′ after′ q
+      → bestNumbers p .refusal ≡ 0 → bestNumbers q .refusal ≡ 0 → Grows (bestNumbers p .separation) (bestNumbers q .separation)
+  best-added f g z z′ =
+      let r = f .accepts .0 z .0 in
+      let l = g .accepts .0 z′ .0 in
+      let old = best-there f z in
+      let new = best-there g z′ in
+      grows _ _
+      (not-above (λ t. (d : ℤ) × HasWiring a b t d) _ _ (λ t h w. f .none z t h (w .0) (w .1)) (new .0, fewer r l _ (new .0) (new .1)))
+      (not-above (λ t. (d : ℤ) × HasWiring (longer a x) (longer b y) t d) _ _ (λ t h w. g .none z′ t h (w .0) (w .1)) (old .0, more r l _ (old .0) (old .1)))

@@ -1,0 +1,15 @@
+-- WHAT A PAIR ADDED AFTER THE LAST DOES to a least or best separation (02, #113): it "raises each by at most one before #106's extra track, and by at most two with it".
+--
+-- Worked: rows 0 and 0 have least and best separation 0. With the pair 1, 2 added they are rows 0,1 and 0,2: least at offset 0, and best, are 2. So rises of two happen.
+use mathlib.Core.List.{List}
+use Prim.Native.Nat.{ℕ, _+_, _≤_, _<_}
+use Rattle.wiring.specs.Tracks.{ruleAt}
+
+-- a separation, and the one after the pair was added
+pub record Grows (before after : ℕ) : Type 0 where
+  pub lower : before ≤ after
+  pub two : after ≤ before + 2
+  -- "by at most one before #106's extra track": in the numbers at which the rule is read
+  pub inside : ruleAt after ≤ ruleAt before + 1
+  -- a rise of two is from 0 only
+  pub one : 0 < before → after ≤ before + 1

@@ -1,0 +1,58 @@
+-- WHICH PAIRS STAY, and which questions about a part we accept (02, #113). A lent row of bytes says it: "one a pair, 0 dropped, anything else kept".
+--
+-- Worked: the bytes 1,0,7,1 keep pairs 0, 2 and 3. J = rows 0,1,4,5 and 1,2,3,4 is then left with rows 0,4,5 and 1,3,4. Three bytes for J are UNEQUAL; four bytes 0
+-- are EMPTY, also for rows that have another fault.
+use mathlib.Core.Bool.{cond}
+use mathlib.Core.Path.{_≡_}
+use mathlib.Core.List.{List, [], _∷_, _++_}
+use mathlib.Core.Logic.{_↔_}
+use Prim.Native.Nat.{ℕ, zero, suc, _≤_}
+use lib.Dec.{eqb}
+use lib.ListN.{length, getD}
+use lib.IntN.{ℤ}
+use Rattle.wiring.specs.Part.{pairOf, partOf}
+use Rattle.jumper.specs.Rows.{checkedNumbers, pick, orElse}
+use Rattle.jumper.specs.Asked.{checkAsked, Asked}
+use Rattle.jumper.specs.declared.refusal.Refusal.the-variants.{Unequal, Empty}
+use Rattle.jumper.specs.declared.rows.Checked.{Checked}
+use Rattle.jumper.specs.declared.rows.Checked.the-variants.{Accepted, Refused}
+use Rattle.route.specs.Table.{columnIn, wires}
+
+-- the numbers of the pairs that stay, among the first n. That these are all whose byte isn't 0, and no others, is the law `kept-exactly` of proofs/Keeping.antt
+unfoldable pub keptAmong : (stays : List ℕ) → ℕ → List ℕ
+keptAmong stays zero = []
+keptAmong stays (suc n) = cond (eqb (getD stays n 0) 0) (keptAmong stays n) (keptAmong stays n ++ (n ∷ []))
+
+abbrev pub kept : List ℕ → List ℕ
+kept stays = keptAmong stays (length stays)
+
+-- a row with only the pads that stay, and a table of columns with only their wires
+abbrev pub rowLeft : (stays : List ℕ) → List ℤ → List ℤ
+rowLeft stays a = partOf (kept stays) a
+
+abbrev pub wiresLeft : (stays : List ℕ) (s : ℕ) (table : List ℤ) → List ℤ
+wiresLeft stays s table = wires (λ i. columnIn table s (pairOf (kept stays) i)) s (length (kept stays))
+
+-- "a row of bytes of another length is UNEQUAL, none kept is EMPTY"
+abbrev pub staysFault : (a b : List ℤ) (stays : List ℕ) → Checked
+staysFault a b stays =
+    pick (eqb (length a) (length b))
+    (pick (eqb (length a) (length stays))
+    (pick (eqb (length (kept stays)) 0) (Refused Empty) Accepted)
+    (Refused Unequal))
+    (Refused Unequal)
+
+-- "Refusals 1 to 7 by number": 1 and 2 speak of the bytes too, "all else is of the whole rows"
+abbrev pub checkPart : (a b : List ℤ) (stays : List ℕ) (s : ℕ) (d : ℤ) → Checked
+checkPart a b stays s d = orElse (staysFault a b stays) (checkAsked a b s d)
+
+-- a part as we accept it: of rows, separation and offset that are accepted, with a byte for each pair, and one pair at least that stays
+pub record AskedPart (a b : List ℤ) (stays : List ℕ) (s : ℕ) (d : ℤ) : Type 0 where
+  pub whole : Asked a b s d
+  pub bytes : length a ≡ length stays
+  pub some : 1 ≤ length (kept stays)
+
+-- What the check promises: which refusal, and that there is none exactly for what is accepted.
+pub record PartCheck (a b : List ℤ) (stays : List ℕ) (s : ℕ) (d : ℤ) (r : Checked) : Type 0 where
+  pub answer : r ≡ checkPart a b stays s d
+  pub accepts : (checkedNumbers r .refusal ≡ 0) ↔ AskedPart a b stays s d
