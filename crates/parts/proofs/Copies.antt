@@ -1,22 +1,62 @@
--- THE WIRES THAT STAY, as the loop writes them: those of the first i pairs that stay in what was out₀, and the next to read is wire i. And a row of pads as a table
--- over no track.
+-- What the two loops have written after the first bytes: the pads that stay, and the wires that stay.
 use mathlib.Core.Path.{_≡_, refl, sym, ap, _∙_}
-use mathlib.Core.List.{List, [], _∷_, _++_}
+use mathlib.Core.List.{List, [], _∷_, _++_, map-append}
 use mathlib.Core.Logic.{_≢_}
 use Prim.Native.Nat.{ℕ, zero, suc, _+_, _-_, _*_, _≤_, _<_}
 use native.Mathlib.Nat.{suc-mul}
 use native.Mathlib.Numerals.{add-one}
 use native.Mathlib.Omega.{arith}
-use lib.ListN.{length, getD, take, drop}
+use lib.ListN.{length, getD, set, take, drop, length-set}
+use lib.Seq.{take-set-le, take-suc-set}
 use lib.IntN.{ℤ, pos}
 use Rattle.wiring.specs.Wiring.{pad}
 use Rattle.wiring.specs.Part.{pairOf, partOf}
 use Rattle.route.specs.Table.{columnIn, columns, wires}
 use Rattle.route.proofs.Places.{columns-same, place-in, put, Drawn, drawn-none, drawn-all, drawn-room, drawn-part, drawn-next}
-use Rattle.parts.specs.Stays.{keptAmong, kept, wiresLeft}
-use Rattle.parts.proofs.Keeping.{count-same, count-more, kept-none, kept-room, kept-pair}
+use Rattle.parts.specs.Stays.{keptAmong, kept, rowLeft, wiresLeft}
+use Rattle.parts.proofs.Keeping.{kept-none, kept-dropped, kept-stays, count-same, count-more, kept-few, kept-room, kept-pair}
 
--- the wires that stay, by their number in the part
+-- THE PADS THAT STAY of the first k stand in the first `at` places; beyond them may stand anything
+pub record Filled (stays : List ℕ) (row out₀ : List ℤ) (at k : ℕ) (out : List ℤ) : Type 0 where
+  pub number : at ≡ length (keptAmong stays k)
+  pub same : length out ≡ length out₀
+  pub pads : take at out ≡ partOf (keptAmong stays k) row
+
+module _ (stays : List ℕ) (row out₀ : List ℤ) where
+  pub filled-none : Filled stays row out₀ 0 0 out₀
+  unfolding keptAmong
+  filled-none = record { number = refl; same = refl; pads = refl }
+
+  pub filled-all : (at k : ℕ) (out : List ℤ) → k ≡ length stays → Filled stays row out₀ at k out → (at ≡ length (kept stays)) × (take at out ≡ rowLeft stays row)
+  filled-all at k out e f = (rw e at (f .number), rw e at (f .pads))
+
+  module _ (at k : ℕ) (out : List ℤ) (lt : k < length stays) (room : length stays ≤ length out₀) (f : Filled stays row out₀ at k out) where
+    pub filled-room : at < length out
+    filled-room = omega (arith, f .number, f .same, kept-few stays k)
+
+    stored : (x : ℤ) → length (set out at x) ≡ length out₀
+    stored x = length-set out at x ∙ f .same
+
+    -- a pad was stored there that is dropped, and one that stays
+    pub filled-dropped : (x : ℤ) → getD stays k 0 ≡ 0 → Filled stays row out₀ at (k + 1) (set out at x)
+    filled-dropped x e =
+        record {
+          number = f .number ∙ sym (count-same stays k e);
+          same = stored x;
+          pads = rw (add-one k, kept-dropped stays k e) (take-set-le at out at x (omega arith) ∙ f .pads);
+        }
+
+    pub filled-stays : (x : ℤ) → x ≡ pad row k → getD stays k 0 ≢ 0 → Filled stays row out₀ (at + 1) (k + 1) (set out at x)
+    filled-stays x here e =
+        record {
+          number = omega (arith, f .number, count-more stays k e);
+          same = stored x;
+          pads =
+            rw (add-one at, add-one k, kept-stays stays k e)
+            (take-suc-set out at x filled-room ∙ rw (f .pads, here) (sym (map-append (pad row) (keptAmong stays k) (k ∷ []))));
+        }
+
+-- THE WIRES THAT STAY of the first i stand in what was out₀, and wire i is the next to read. The wires that stay, by their number in the part
 abbrev pub left : (stays : List ℕ) (s : ℕ) (table : List ℤ) → ℕ → ℕ → ℤ
 left stays s table i = columnIn table s (pairOf (kept stays) i)
 

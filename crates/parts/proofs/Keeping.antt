@@ -19,11 +19,11 @@ kept-none stays = refl
 
 -- one byte more: 0 adds nothing, any other adds its pair
 module _ (stays : List ℕ) (n : ℕ) where
-  kept-dropped : getD stays n 0 ≡ 0 → keptAmong stays (suc n) ≡ keptAmong stays n
+  pub kept-dropped : getD stays n 0 ≡ 0 → keptAmong stays (suc n) ≡ keptAmong stays n
   unfolding keptAmong
   kept-dropped e = rw (eq-eqb (getD stays n 0) 0 e)
 
-  kept-stays : getD stays n 0 ≢ 0 → keptAmong stays (suc n) ≡ keptAmong stays n ++ (n ∷ [])
+  pub kept-stays : getD stays n 0 ≢ 0 → keptAmong stays (suc n) ≡ keptAmong stays n ++ (n ∷ [])
   unfolding keptAmong
   kept-stays e = rw (ne-eqb (getD stays n 0) 0 e)
 

@@ -3,7 +3,7 @@ ghost use Rattle.parts.specs.Stays.{AskedPart};
 ghost use Rattle.parts.specs.Routed.{RoutedAnswer};
 use crate::stays::check_part;
 use crate::stays::count;
-use crate::stays::keep;
+use crate::stays::keep_wires;
 use jumper::refusal::Refusal;
 use jumper::rows::Checked;
 use route::checking::check_route;
@@ -47,7 +47,7 @@ fn route_left(
     match check_route(a, b, s, d, table) {
         Checked::Refused(r) => Checked::Refused(r),
         Checked::Accepted => {
-            keep(table, s, stays, out);
+            keep_wires(table, s, stays, out);
             Checked::Accepted
         }
     }

@@ -2,11 +2,12 @@
 ghost use mathlib.Core.Path.{_≡_};
 ghost use mathlib.Core.List.{_++_};
 ghost use Prim.Native.Nat.{_+_, _*_, _≤_};
-ghost use lib.ListN.{length, drop};
+ghost use lib.Dec.{eqb};
+ghost use lib.ListN.{length, take, drop};
 ghost use Rattle.jumper.specs.Limits.{maxTracks};
 ghost use Rattle.wiring.specs.Wiring.{pad};
 ghost use Rattle.route.specs.Table.{columns};
-ghost use Rattle.parts.specs.Stays.{kept, wiresLeft, PartCheck};
+ghost use Rattle.parts.specs.Stays.{kept, rowLeft, wiresLeft, PartCheck};
 use jumper::asked::check_asked;
 use jumper::refusal::Refusal;
 use jumper::rows::Checked;
@@ -26,6 +27,20 @@ pub(crate) fn count(stays: &[u8]) -> usize
     m
 }
 
+// Whether no pair stays. Most parts keep a pair near their left end, where this is told; a count would read all bytes.
+fn none_stays(stays: &[u8]) -> bool
+    ensures { λ r. ⌜ r ≡ eqb (length (kept (now (stays .entry)))) 0 ⌝ }
+{
+    let mut k: usize = 0;
+    while k < stays.len() {
+        if stays[k] != 0 {
+            return false;
+        }
+        k += 1;
+    }
+    true
+}
+
 // Refusals 1 to 7, by number: UNEQUAL and EMPTY speak of the bytes too, all others of the whole rows.
 pub(crate) fn check_part(a: &[i32], b: &[i32], stays: &[u8], s: usize, d: i32) -> Checked
     ensures { λ r. ⌜ PartCheck (now (a .entry)) (now (b .entry)) (now (stays .entry)) s d r ⌝ }
@@ -37,10 +52,28 @@ pub(crate) fn check_part(a: &[i32], b: &[i32], stays: &[u8], s: usize, d: i32) -
     if n != stays.len() {
         return Checked::Refused(Refusal::Unequal);
     }
-    if count(stays) == 0 {
+    if none_stays(stays) {
         return Checked::Refused(Refusal::Empty);
     }
     check_asked(a, b, s, d)
+}
+
+// The pads of a row that stay, side by side into the first places; how many they are is told. Every pad is stored and only those that stay move the place on, so
+// that no branch goes wrong: what stands beyond them is left open, in memory that is ours.
+pub(crate) fn keep_pads(row: &[i32], stays: &[u8], out: &mut [i32]) -> usize
+    requires { ⌜ (length (now stays) ≤ length (now row)) × (length (now stays) ≤ length (now out)) ⌝ }
+    ensures { λ r. ⌜ (r ≡ length (kept (now (stays .entry)))) × (take r (now (out .exit)) ≡ rowLeft (now (stays .entry)) (now (row .entry))) ⌝ }
+{
+    let mut at: usize = 0;
+    let mut k: usize = 0;
+    while k < stays.len() {
+        out[at] = row[k];
+        if stays[k] != 0 {
+            at += 1;
+        }
+        k += 1;
+    }
+    at
 }
 
 // k columns of a table, from place `from` on, into the first k places.
@@ -55,19 +88,19 @@ fn copy(table: &[i32], from: usize, k: usize, out: &mut [i32])
     }
 }
 
-// The wires of a table that stay, wire after wire, each with its s + 1 columns. A row of pads is such a table over no track: one column a wire.
-pub(crate) fn keep(table: &[i32], s: usize, stays: &[u8], out: &mut [i32])
+// The wires of a table that stay, wire after wire, each with its s + 1 columns.
+pub(crate) fn keep_wires(table: &[i32], s: usize, stays: &[u8], out: &mut [i32])
     requires { ⌜ (s ≤ maxTracks) × (length (now stays) * (s + 1) ≤ length (now table)) × (length (kept (now stays)) * (s + 1) ≤ length (now out)) ⌝ }
     ensures { λ r. ⌜ now (out .exit) ≡ wiresLeft (now (stays .entry)) s (now (table .entry)) ++ drop (length (kept (now (stays .entry))) * (s + 1)) (now (out .entry)) ⌝ }
 {
     let w = s + 1;
     let mut from: usize = 0;
-    let mut at: usize = 0;
+    let mut place: usize = 0;
     let mut pair: usize = 0;
     while pair < stays.len() {
         if stays[pair] != 0 {
-            copy(table, from, w, &mut out[at..]);
-            at += w;
+            copy(table, from, w, &mut out[place..]);
+            place += w;
         }
         from += w;
         pair += 1;

@@ -3,8 +3,7 @@ ghost use Rattle.fit.specs.Misfit.{FitAnswer};
 ghost use Rattle.parts.specs.Stays.{rowLeft, AskedPart};
 ghost use Rattle.parts.specs.Still.{StillAnswer};
 use crate::stays::check_part;
-use crate::stays::count;
-use crate::stays::keep;
+use crate::stays::keep_pads;
 use fit::misfit::fit;
 use jumper::limits::MAX_PAIRS;
 use jumper::rows::Checked;
@@ -24,11 +23,10 @@ fn fit_left(a: &[i32], b: &[i32], stays: &[u8], s: usize, d: i32) -> Checked
     requires { ⌜ AskedPart (now a) (now b) (now stays) s d ⌝ }
     ensures { λ r. ⌜ FitAnswer (rowLeft (now (stays .entry)) (now (a .entry))) (rowLeft (now (stays .entry)) (now (b .entry))) s d r ⌝ }
 {
-    let m = count(stays);
     let mut bottom = [0i32; MAX_PAIRS];
     let mut top = [0i32; MAX_PAIRS];
-    keep(a, 0, stays, &mut bottom);
-    keep(b, 0, stays, &mut top);
+    let m = keep_pads(a, stays, &mut bottom);
+    keep_pads(b, stays, &mut top);
     let below = &bottom[..m];
     let above = &top[..m];
     fit(below, above, s, d)

@@ -29,6 +29,19 @@ fn rule(n: usize, tight: bool) {
     };
     row(&name("best", ""), ladders(baseline::best_with_ladder));
     row(&name("best", ", against copies"), ladders(baseline::best_by_copies));
+    for (how, stays) in [(", one in eight bare", bare(n, |i| i % 8 == 3)), (", any bare", bare(n, |i| i * i * 2654435761 >> 7 & 1 == 0))] {
+        let z = &stays[..];
+        let part = race(
+            || obrastyn::still_fits(black_box(x), black_box(y), black_box(z), least, 0),
+            || baseline::still_fits(black_box(x), black_box(y), black_box(z), least, 0),
+        );
+        row(&name("part", how), part);
+    }
+}
+
+/// Which pairs of a part stay.
+fn bare(n: usize, bare: fn(usize) -> bool) -> Vec<u8> {
+    (0..n).map(|i| u8::from(!bare(i))).collect()
 }
 
 /// Rows that need about `s` tracks at offset 0, drawn and checked at exactly `s`.
@@ -56,6 +69,15 @@ fn route(n: usize, s: usize) {
     assert_eq!(one, other);
     let checked = race(|| obrastyn::check(black_box(x), black_box(y), s, 0, &ours), || baseline::check(black_box(x), black_box(y), s, 0, &plain));
     row(&name("check"), checked);
+    let stays = bare(n, |i| i % 8 == 3);
+    let places = stays.iter().filter(|&&byte| byte != 0).count() * (s + 1);
+    let (mut left, mut other) = (vec![0i32; places], vec![0i32; places]);
+    let routed = race(
+        || obrastyn::part_route(black_box(x), black_box(y), black_box(&stays), s, 0, &ours, &mut left),
+        || baseline::part_route(black_box(x), black_box(y), black_box(&stays), s, 0, &plain, &mut other),
+    );
+    row(&name("route of a part"), routed);
+    assert_eq!(left, other);
 }
 
 fn whole_form(tight: bool) {

@@ -17,7 +17,7 @@ use Rattle.parts.proofs.routed.route_left.Tie as tie
 use Rattle.parts.proofs.routed.route_left.Reads as reads
 use Rattle.parts.proofs.routed.route_left.Lts as lts
 use Rattle.parts.proofs.stays.count.Reads as count-reads
-use Rattle.parts.proofs.stays.keep.Reads as keep-reads
+use Rattle.parts.proofs.stays.keep_wires.Reads as keep-wires-reads
 use Rattle.route.proofs.checking.check_route.Reads as check-route-reads
 
 asked : (start : tie.Start) → AskedPart (start .args .a .now) (start .args .b .now) (start .args .stays .now) (start .args .s) (start .args .d)
@@ -79,8 +79,8 @@ enum-told : tie.Need-enum-told
 enum-told c = search needs
 
 -- src/routed.rt:50:13
-keep-requires : tie.Need-keep-requires
-keep-requires c κs =
+keep-wires-requires : tie.Need-keep-wires-requires
+keep-wires-requires c κs =
     let k = c .before .before .before in
     let legal = checked k _ (c .before .enum-told .given .1) in
     table-lent _ _ _ _ _ (entered k .args .table .now) (entered k .args .out .now) (asked (entered k)) (room k) (legal .accepts .0 refl .1)
@@ -100,7 +100,7 @@ returns-3 : tie.Need-returns-3
 returns-3 c =
     let told = c .before .before .before in
     let k = told .before .before in
-    routed-done _ _ _ _ _ _ _ (asked (entered k)) (room k) (checked k _ (told .enum-told .given .1)) _ (c .before .keep .ensures)
+    routed-done _ _ _ _ _ _ _ (asked (entered k)) (room k) (checked k _ (told .enum-told .given .1)) _ (c .before .keep-wires .ensures)
 
 pub route-left-spec : {M : Type 1} → statement M
 route-left-spec =
@@ -113,7 +113,7 @@ route-left-spec =
     check-route-requires
     enum-known-r
     enum-told
-    keep-requires
+    keep-wires-requires
     returns-2
     same-length
     returns-3)

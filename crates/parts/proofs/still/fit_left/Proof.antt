@@ -1,21 +1,20 @@
 -- The first m places of both arrays hold the rows left, and `fit` is asked of these.
-use mathlib.Core.Path.{_≡_, refl}
+use mathlib.Core.Path.{_≡_, refl, sym, _∙_}
 use mathlib.Core.List.{List}
 use Prim.Native.Nat.{ℕ}
 use borrow.Author.Needs.{needs}
-use lib.ListN.{take}
+use lib.ListN.{length, take}
 use lib.IntN.{ℤ}
 use mir.Syntax.{w32}
 use mir.ValLaws.{toZ-ofZ}
-use Rattle.parts.specs.Stays.{rowLeft, AskedPart}
-use Rattle.parts.proofs.Left.{row-lent, row-written, row-count, row-inside}
+use Rattle.parts.specs.Stays.{kept, rowLeft, AskedPart}
+use Rattle.parts.proofs.Left.{row-lent, row-count, row-inside}
 use Rattle.parts.proofs.still.fit_left.Statement.{statement}
 use Rattle.parts.proofs.still.fit_left.Tie as tie
 use Rattle.parts.proofs.still.fit_left.Reads as reads
 use Rattle.parts.proofs.still.fit_left.Lts as lts
 use Rattle.fit.proofs.misfit.fit.Reads as fit-reads
-use Rattle.parts.proofs.stays.count.Reads as count-reads
-use Rattle.parts.proofs.stays.keep.Reads as keep-reads
+use Rattle.parts.proofs.stays.keep_pads.Reads as keep-pads-reads
 
 -- what is asked of the part
 asked : (start : tie.Start) → AskedPart (start .args .a .now) (start .args .b .now) (start .args .stays .now) (start .args .s) (start .args .d)
@@ -23,77 +22,71 @@ asked start = start .pre
 
 -- where both rows are written
 abbrev Written : Type 0
-Written = tie.After-keep2
+Written = tie.After-keep-pads2
 
 abbrev entered : Written → tie.Start
-entered k = k .before .before .before .before .before .before .before
+entered k = k .before .before .before .before .before .before
 
 abbrev number : Written → ℕ
-number k = k .before .before .before .before .before .count .result
+number k = k .before .before .before .keep-pads .result
 
 abbrev bottom : Written → List ℤ
-bottom k = k .before .before .before .keep .last .1 .1 .1 .0
+bottom k = k .before .before .before .keep-pads .last .1 .1 .0
 
 abbrev top : Written → List ℤ
-top k = k .keep2 .last .1 .1 .1 .0
+top k = k .keep-pads2 .last .1 .1 .0
+
+counted : (k : Written) → number k ≡ length (kept (entered k .args .stays .now))
+counted k = k .before .before .before .keep-pads .ensures .0
 
 bottom-left : (k : Written) → take (number k) (bottom k) ≡ rowLeft (entered k .args .stays .now) (entered k .args .a .now)
-bottom-left k = row-written _ _ _ _ _ (k .before .before .before .before .before .count .ensures) (k .before .before .before .keep .ensures)
+bottom-left k = k .before .before .before .keep-pads .ensures .1
 
+-- as many stay above as below
 top-left : (k : Written) → take (number k) (top k) ≡ rowLeft (entered k .args .stays .now) (entered k .args .b .now)
-top-left k = row-written _ _ _ _ _ (k .before .before .before .before .before .count .ensures) (k .keep2 .ensures)
+top-left k =
+    let same : k .keep-pads2 .result ≡ number k = k .keep-pads2 .ensures .0 ∙ sym (counted k) in
+    rw same at (k .keep-pads2 .ensures .1)
 
--- src/still.rt:27:9
-count-requires : tie.Need-count-requires
-count-requires c κs = search needs
+-- src/still.rt:28:33
+slice-aggregate-keep-pads : tie.Need-slice-aggregate-keep-pads
+slice-aggregate-keep-pads c = search needs
 
--- src/still.rt:30:23
-slice-aggregate-keep : tie.Need-slice-aggregate-keep
-slice-aggregate-keep c = search needs
+-- src/still.rt:28:9
+keep-pads-requires : tie.Need-keep-pads-requires
+keep-pads-requires c κs = row-lent (asked (c .before .before)) (c .before .before .args .a .now) refl
 
--- src/still.rt:30:5
-keep-requires : tie.Need-keep-requires
-keep-requires c κs = row-lent (asked (c .before .before .before)) (c .before .before .before .args .a .now) refl
+-- src/still.rt:29:25
+slice-aggregate-keep-pads-2 : tie.Need-slice-aggregate-keep-pads-2
+slice-aggregate-keep-pads-2 c = search needs
 
--- src/still.rt:31:23
-slice-aggregate-keep-2 : tie.Need-slice-aggregate-keep-2
-slice-aggregate-keep-2 c = search needs
-
--- src/still.rt:31:5
-keep-requires-2 : tie.Need-keep-requires-2
-keep-requires-2 c κs =
-    let start = c .before .before .before .before .before .before in
+-- src/still.rt:29:5
+keep-pads-requires-2 : tie.Need-keep-pads-requires-2
+keep-pads-requires-2 c κs =
+    let start = c .before .before .before .before .before in
     row-lent (asked start) (start .args .b .now) (asked start .whole .rows .equal)
 
--- src/still.rt:32:9
+-- src/still.rt:30:17
 array-share-prefix-bottom : tie.Need-array-share-prefix-bottom
-array-share-prefix-bottom c =
-    let k = c .before in
-    row-inside _ _ _ _ _ (k .before .before .before .before .before .count .ensures) (k .before .before .before .keep .ensures)
+array-share-prefix-bottom c = let k = c .before in row-inside _ (entered k .args .a .now) _ _ (counted k) (bottom-left k)
 
--- src/still.rt:32:9
+-- src/still.rt:30:9
 slice-aggregate-below : tie.Need-slice-aggregate-below
-slice-aggregate-below c =
-    let k = c .before .before in
-    row-count _ _ _ _ _ (k .before .before .before .before .before .count .ensures) (k .before .before .before .keep .ensures)
+slice-aggregate-below c = let k = c .before .before in row-count _ (entered k .args .a .now) _ _ (counted k) (bottom-left k)
 
--- src/still.rt:32:23
+-- src/still.rt:31:17
 array-share-prefix-top : tie.Need-array-share-prefix-top
-array-share-prefix-top c =
-    let k = c .before .before in
-    row-inside _ _ _ _ _ (k .before .before .before .before .before .count .ensures) (k .keep2 .ensures)
+array-share-prefix-top c = let k = c .before .before in row-inside _ (entered k .args .b .now) _ _ (counted k) (top-left k)
 
--- src/still.rt:32:23
+-- src/still.rt:31:9
 slice-aggregate-above : tie.Need-slice-aggregate-above
-slice-aggregate-above c =
-    let k = c .before .before .before in
-    row-count _ _ _ _ _ (k .before .before .before .before .before .count .ensures) (k .keep2 .ensures)
+slice-aggregate-above c = let k = c .before .before .before in row-count _ (entered k .args .b .now) _ _ (counted k) (top-left k)
 
 -- src/still.rt:32:5
 fit-requires : tie.Need-fit-requires
 fit-requires c κs = search needs
 
--- src/still.rt:23:1
+-- src/still.rt:22:1
 returns : tie.Need-returns
 returns c =
     let k = c .before .before .before .before in
@@ -104,11 +97,10 @@ pub fit-left-spec : {M : Type 1} → statement M
 fit-left-spec =
     tie.close
     (tie.spec
-    count-requires
-    slice-aggregate-keep
-    keep-requires
-    slice-aggregate-keep-2
-    keep-requires-2
+    slice-aggregate-keep-pads
+    keep-pads-requires
+    slice-aggregate-keep-pads-2
+    keep-pads-requires-2
     array-share-prefix-bottom
     slice-aggregate-below
     array-share-prefix-top

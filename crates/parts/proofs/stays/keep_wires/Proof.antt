@@ -6,17 +6,17 @@ use native.Mathlib.Omega.{arith}
 use borrow.Author.Needs.{needs}
 use lib.ListN.{length}
 use Rattle.parts.proofs.Copies.{Held, held-none, held-all, held-read, held-dropped, held-room, held-part, held-stays}
-use Rattle.parts.proofs.stays.keep.Statement.{statement}
-use Rattle.parts.proofs.stays.keep.Tie as tie
-use Rattle.parts.proofs.stays.keep.Reads as reads
-use Rattle.parts.proofs.stays.keep.Lts as lts
+use Rattle.parts.proofs.stays.keep_wires.Statement.{statement}
+use Rattle.parts.proofs.stays.keep_wires.Tie as tie
+use Rattle.parts.proofs.stays.keep_wires.Reads as reads
+use Rattle.parts.proofs.stays.keep_wires.Lts as lts
 use Rattle.parts.proofs.stays.copy.Reads as copy-reads
 
 abbrev Inv-loop : tie.InvT-loop
-Inv-loop table s stays out₀ w from₀ at₀ pair₀ out from at pair = (pair ≤ length stays) × Held stays s table out₀ from at pair out
+Inv-loop table s stays out₀ w from₀ place₀ pair₀ out from place pair = (pair ≤ length stays) × Held stays s table out₀ from place pair out
 
 abbrev μ-loop : tie.MeasureT-loop
-μ-loop table s stays out₀ w from₀ at₀ pair₀ out from at pair = length stays - pair
+μ-loop table s stays out₀ w from₀ place₀ pair₀ out from place pair = length stays - pair
 
 -- src/stays.rt:63:13
 add-w : tie.Need-add-w Inv-loop μ-loop
@@ -78,8 +78,8 @@ copy-requires c κs =
     )
 
 -- src/stays.rt:70:13
-add-at : tie.Need-add-at Inv-loop μ-loop
-add-at c =
+add-place : tie.Need-add-place Inv-loop μ-loop
+add-place c =
     let here = c .before .before .before in
     let at-loop = here .before .before .before in
     let start = at-loop .before .before in
@@ -129,8 +129,8 @@ returns c =
     let k = c .before .before .before .args in
     held-all (k .stays .now) (k .s) (k .table .now) (k .out .now) _ _ _ _ (omega arith) (c .before .loop .inv .1)
 
-pub keep-spec : {M : Type 1} → statement M
-keep-spec =
+pub keep-wires-spec : {M : Type 1} → statement M
+keep-wires-spec =
     tie.close
     (tie.spec
     Inv-loop
@@ -143,7 +143,7 @@ keep-spec =
     part-copy-start
     part-copy-end
     copy-requires
-    add-at
+    add-place
     add-from
     add-pair
     loop-less
