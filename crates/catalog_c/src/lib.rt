@@ -116,7 +116,13 @@ pub extern "C" fn obrastyn_check(a: &[i32], b: &[i32], s: usize, d: i32, table: 
 
 // Whether the kept record still serves the part in which only the pairs stay whose byte isn't 0: refusals 1 to 7 and 10.
 #[no_mangle]
-pub extern "C" fn obrastyn_still_fits(a: &[i32], b: &[i32], stays: &[u8], s: usize, d: i32) -> Numbers
+pub extern "C" fn obrastyn_still_fits(
+    a: &[i32],
+    b: &[i32],
+    stays: &[u8],
+    s: usize,
+    d: i32,
+) -> Numbers
     ensures answer { λ r. ⌜ r ≡ checkedNumbers (stillOf (now (a .entry)) (now (b .entry)) (now (stays .entry)) s d) ⌝ }
     ensures means { λ r. ⌜ InNumbers checkedNumbers (StillAnswer (now (a .entry)) (now (b .entry)) (now (stays .entry)) s d) r ⌝ }
 {

@@ -40,29 +40,48 @@ module _ (a b : List ℤ) (stays : List ℕ) (s : ℕ) (d : ℤ) where
   accepted-part e =
       let n = length (kept stays) in
       let f = both (staysFault a b stays) (checkAsked a b s d) e in
-      let u = first (eqb (length a) (length b)) (pick (eqb (length a) (length stays)) (pick (eqb n 0) (Refused Empty) Accepted) (Refused Unequal)) Unequal (f .0) in
-      let v = first (eqb (length a) (length stays)) (pick (eqb n 0) (Refused Empty) Accepted) Unequal (u .1) in
+      let some = pick (eqb n 0) (Refused Empty) Accepted in
+      let u = first (eqb (length a) (length b)) (pick (eqb (length a) (length stays)) some (Refused Unequal)) Unequal (f .0) in
+      let v = first (eqb (length a) (length stays)) some Unequal (u .1) in
       let z = eqb-false n 0 (second (eqb n 0) Empty Accepted (v .1) .0) in
       record { whole = accepted-asked a b s d (f .1); bytes = eqb-true (length a) (length stays) (v .0); some = omega arith }
 
-  pub stays-accepted : length a ≡ length b → length a ≡ length stays → length (kept stays) ≢ 0 → staysFault a b stays ≡ Accepted
-  stays-accepted e f z = rw (eq-eqb (length a) (length b) e, eq-eqb (length a) (length stays) f, ne-eqb (length (kept stays)) 0 z)
+  stays-accepted : length a ≡ length b → length a ≡ length stays → eqb (length (kept stays)) 0 ≡ false → staysFault a b stays ≡ Accepted
+  stays-accepted e f z = rw (eq-eqb (length a) (length b) e, eq-eqb (length a) (length stays) f, z)
 
   part-accepted : AskedPart a b stays s d → checkPart a b stays s d ≡ Accepted
-  part-accepted k = rw (stays-accepted (k .whole .rows .equal) (k .bytes) (λ z. omega (arith, k .some))) (asked-accepted a b s d (k .whole))
+  part-accepted k =
+      let some = ne-eqb (length (kept stays)) 0 (λ z. omega (arith, k .some)) in
+      rw (stays-accepted (k .whole .rows .equal) (k .bytes) some) (asked-accepted a b s d (k .whole))
 
-  pub part-check : (r : Checked) → r ≡ checkPart a b stays s d → PartCheck a b stays s d r
+  part-check : (r : Checked) → r ≡ checkPart a b stays s d → PartCheck a b stays s d r
   part-check r e = record { answer = e; accepts = ((λ n. accepted-part (sym e ∙ accepted-of r n)), (λ k. number-of r (e ∙ part-accepted k))) }
+
+  -- as the code goes
+  pub rows-unequal : length a ≢ length b → PartCheck a b stays s d (Refused Unequal)
+  rows-unequal n = part-check (Refused Unequal) (sym (rw (ne-eqb (length a) (length b) n)))
+
+  module _ (e : length a ≡ length b) where
+    pub bytes-unequal : length a ≢ length stays → PartCheck a b stays s d (Refused Unequal)
+    bytes-unequal n = part-check (Refused Unequal) (sym (rw (eq-eqb (length a) (length b) e, ne-eqb (length a) (length stays) n)))
+
+    module _ (f : length a ≡ length stays) where
+      pub none-kept : eqb (length (kept stays)) 0 ≡ true → PartCheck a b stays s d (Refused Empty)
+      none-kept z = part-check (Refused Empty) (sym (rw (eq-eqb (length a) (length b) e, eq-eqb (length a) (length stays) f, z)))
+
+      pub some-kept : eqb (length (kept stays)) 0 ≡ false → (r : Checked) → r ≡ checkAsked a b s d → PartCheck a b stays s d r
+      some-kept z r g = part-check r (g ∙ sym (rw (stays-accepted e f z)))
 
   -- its refusals are 1 to 7
   early-part : Early 7 (checkPart a b stays s d)
   early-part =
       let n = length (kept stays) in
-      early-or 7 (staysFault a b stays) (checkAsked a b s d)
-      (early-pick 7 (eqb (length a) (length b)) (pick (eqb (length a) (length stays)) (pick (eqb n 0) (Refused Empty) Accepted) (Refused Unequal)) (Refused Unequal)
-      (early-pick 7 (eqb (length a) (length stays)) (pick (eqb n 0) (Refused Empty) Accepted) (Refused Unequal) (early-pick 7 (eqb n 0) (Refused Empty) Accepted (omega arith) tt) (omega arith))
-      (omega arith))
-      (early-asked a b s d)
+      let some = pick (eqb n 0) (Refused Empty) Accepted in
+      let bytes = pick (eqb (length a) (length stays)) some (Refused Unequal) in
+      let early-some = early-pick 7 (eqb n 0) (Refused Empty) Accepted (omega arith) tt in
+      let early-bytes = early-pick 7 (eqb (length a) (length stays)) some (Refused Unequal) early-some (omega arith) in
+      let early-stays = early-pick 7 (eqb (length a) (length b)) bytes (Refused Unequal) early-bytes (omega arith) in
+      early-or 7 (staysFault a b stays) (checkAsked a b s d) early-stays (early-asked a b s d)
 
   -- STILL_FITS
   module _ (r : Refusal) (e : checkPart a b stays s d ≡ Refused r) where

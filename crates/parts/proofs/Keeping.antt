@@ -36,7 +36,9 @@ module _ (stays : List ℕ) (n : ℕ) where
 
 -- by cases of the next byte
 abbrev Goes : (stays : List ℕ) (n : ℕ) → Type 0
-Goes stays n = ((getD stays n 0 ≡ 0) × (keptAmong stays (suc n) ≡ keptAmong stays n)) ⊎ ((getD stays n 0 ≢ 0) × (keptAmong stays (suc n) ≡ keptAmong stays n ++ (n ∷ [])))
+Goes stays n =
+    ((getD stays n 0 ≡ 0) × (keptAmong stays (suc n) ≡ keptAmong stays n))
+    ⊎ ((getD stays n 0 ≢ 0) × (keptAmong stays (suc n) ≡ keptAmong stays n ++ (n ∷ [])))
 
 goes : (stays : List ℕ) (n : ℕ) → Goes stays n
 goes stays n = go (decLe (getD stays n 0) 0)
@@ -48,7 +50,9 @@ goes stays n = go (decLe (getD stays n 0) 0)
 pub kept-few : (stays : List ℕ) (n : ℕ) → length (keptAmong stays n) ≤ n
 unfolding keptAmong
 kept-few stays zero = omega arith
-kept-few stays (suc n) = ⊎-elim (λ g. rw (g .1) (omega (arith, kept-few stays n))) (λ g. rw (g .1) (omega (arith, kept-few stays n, length-append (keptAmong stays n) (n ∷ [])))) (goes stays n)
+kept-few stays (suc n) =
+    let few = kept-few stays n in
+    ⊎-elim (λ g. rw (g .1) (omega arith)) (λ g. rw (g .1) (omega (arith, length-append (keptAmong stays n) (n ∷ [])))) (goes stays n)
 
 -- THE PAIRS THAT STAY ARE A CHOICE of the jumper's pairs
 snoc-choice : {n : ℕ} {ks : List ℕ} → Choice n ks → Choice (suc n) (ks ++ (n ∷ []))
@@ -136,5 +140,8 @@ found : (stays : List ℕ) (n k : ℕ) → Among (keptAmong stays n) k → Stays
 found stays zero k h = absurd (omega (arith, h .1, kept-few stays 0))
 found stays (suc n) k h = next-found stays n k (found stays n k) h
 
-pub kept-exactly : (stays : List ℕ) (k : ℕ) → ((i : ℕ) × (i < length (kept stays)) × (pairOf (kept stays) i ≡ k)) ↔ ((k < length stays) × (getD stays k 0 ≢ 0))
-kept-exactly stays k = (found stays (length stays) k, (λ h. (length (keptAmong stays k), kept-room stays (length stays) k (h .0) (h .1), kept-pair stays (length stays) k (h .0) (h .1))))
+pub kept-exactly : (stays : List ℕ) (k : ℕ)
+    → ((i : ℕ) × (i < length (kept stays)) × (pairOf (kept stays) i ≡ k)) ↔ ((k < length stays) × (getD stays k 0 ≢ 0))
+kept-exactly stays k =
+    let n = length stays in
+    (found stays n k, (λ h. (length (keptAmong stays k), kept-room stays n k (h .0) (h .1), kept-pair stays n k (h .0) (h .1))))

@@ -1,5 +1,5 @@
--- WHAT THE CALLS ANSWER of a jumper and of a part of it (02, #113): neither the least nor the best separation rises when pairs are dropped, and a pair added after the
--- last raises each by two at most. Said of any answers of `least_at` and `best_of`, by their promises.
+-- WHAT THE CALLS ANSWER of a jumper and of a part of it (02, #113): neither the least nor the best separation rises when pairs are dropped, and a pair added
+-- after the last raises each by two at most. Said of any answers of `least_at` and `best_of`, by their promises.
 use mathlib.Core.Path.{_≡_}
 use mathlib.Core.List.{List}
 use Prim.Native.Nat.{ℕ, zero, suc, _+_, _≤_, _<_}
@@ -57,11 +57,13 @@ module _ {a b : List ℤ} {kept : List ℕ} (c : Choice (length a) kept) (some :
       (z′, not-above (λ t. HasWiring (partOf kept a) (partOf kept b) t d) _ _ (q .least z′) (dropped-wiring a b c _ d (p .fits z)))
 
   -- the ladder is written where there is room for it, so both answers must not be BUFFER
-  pub best-dropped : {before after before′ after′ : List ℕ} {r r′ : Best} → BestAnswer a b before after r → BestAnswer (partOf kept a) (partOf kept b) before′ after′ r′
+  pub best-dropped : {before after before′ after′ : List ℕ} {r r′ : Best}
+      → BestAnswer a b before after r → BestAnswer (partOf kept a) (partOf kept b) before′ after′ r′
       → bestNumbers r .refusal ≡ 0 → bestNumbers r′ .refusal ≡ 0 → bestNumbers r′ .separation ≤ bestNumbers r .separation
   best-dropped p q z z′ =
       let there = best-there p z in
-      not-above (λ t. (d : ℤ) × HasWiring (partOf kept a) (partOf kept b) t d) _ _ (λ t h w. q .none z′ t h (w .0) (w .1)) (there .0, dropped-wiring a b c _ (there .0) (there .1))
+      let still = dropped-wiring a b c _ (there .0) (there .1) in
+      not-above (λ t. (d : ℤ) × HasWiring (partOf kept a) (partOf kept b) t d) _ _ (λ t h w. q .none z′ t h (w .0) (w .1)) (there .0, still)
 
 -- A PAIR ADDED AFTER THE LAST, at column x below and y above
 module _ (a b : List ℤ) (x y : ℤ) where
@@ -72,8 +74,8 @@ module _ (a b : List ℤ) (x y : ℤ) where
     fewer : (s : ℕ) (d : ℤ) → HasWiring (longer a x) (longer b y) s d → HasWiring a b s d
     fewer s d = shorter-wiring a b x y (r .equal) s d
 
-  pub least-added : {d : ℤ} {p q : Least} → LeastAnswer a b d p → LeastAnswer (longer a x) (longer b y) d q → leastNumbers p .refusal ≡ 0 → leastNumbers q .refusal ≡ 0
-      → Grows (leastNumbers p .separation) (leastNumbers q .separation)
+  pub least-added : {d : ℤ} {p q : Least} → LeastAnswer a b d p → LeastAnswer (longer a x) (longer b y) d q
+      → leastNumbers p .refusal ≡ 0 → leastNumbers q .refusal ≡ 0 → Grows (leastNumbers p .separation) (leastNumbers q .separation)
   least-added {d} f g z z′ =
       let r = f .accepts .0 z .rows in
       let l = g .accepts .0 z′ .rows in

@@ -1,5 +1,5 @@
--- What other floors and readers cite: Keeping, which pairs stay; Left, the rows left; Laws, what dropping and adding do to the answers. Copies is how what stays is
--- written, Answers what the calls promise.
+-- What other floors and readers cite: Keeping, which pairs stay; Left, the rows left; Laws, what dropping and adding do to the answers. Copies is how what
+-- stays is written, Answers what the calls promise.
 pub mod Keeping
 mod Copies
 pub mod Left

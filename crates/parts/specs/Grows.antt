@@ -1,7 +1,8 @@
--- WHAT A PAIR ADDED AFTER THE LAST DOES to a least or best separation (02, #113): it "raises each by at most one before #106's extra track, and by at most two with it".
+-- WHAT A PAIR ADDED AFTER THE LAST DOES to a least or best separation (02, #113): it "raises each by at most one before #106's extra track, and by at most
+-- two with it". That this holds of what `least_at` and `best_of` answer is said by `least-added` and `best-added` of proofs/Laws.antt.
 --
--- Worked: rows 0 and 0 have least and best separation 0. With the pair 1, 2 added they are rows 0,1 and 0,2: least at offset 0, and best, are 2. So rises of two happen.
-use mathlib.Core.List.{List}
+-- Worked: rows 0 and 0 have least separation 0 at offset 0, and best separation 0. With the pair 1, 2 added they are rows 0,1 and 0,2, and both are 2: a rise of
+-- two. With the pair 2, 4 added after these they are rows 0,1,2 and 0,2,4, and both are 3 and 2: a rise of one, and of none.
 use Prim.Native.Nat.{ℕ, _+_, _≤_, _<_}
 use Rattle.wiring.specs.Tracks.{ruleAt}
 

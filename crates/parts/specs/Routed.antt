@@ -1,7 +1,7 @@
 -- THE PROMISE of `part_route` (02, #113): the old route's table without the dropped wires (refusals 1 to 7, BUFFER, then BADWIRE).
 --
--- Worked: J at separation 3, offset 0 is drawn 0,0,0,1 / 1,1,2,2 / 4,4,3,3 / 5,5,5,4. For the bytes 1,0,7,1 the part's route is 0,0,0,1 / 4,4,3,3 / 5,5,5,4. It isn't the one
--- we would draw for the part: there wire 0 enters track 2 on column 1. It is legal all the same.
+-- Worked: J at separation 3, offset 0 is drawn 0,0,0,1 / 1,1,2,2 / 4,4,3,3 / 5,5,5,4. For the bytes 1,0,7,1 the part's route is 0,0,0,1 / 4,4,3,3 / 5,5,5,4. It
+-- isn't the one we would draw for the part, whose wire 0 enters track 2 on column 1 already. It is legal all the same.
 use mathlib.Core.Path.{_≡_}
 use mathlib.Core.List.{List, _++_}
 use mathlib.Core.Logic.{_↔_}
@@ -21,7 +21,7 @@ use Rattle.parts.specs.Stays.{kept, rowLeft, wiresLeft, checkPart, Asked
 abbrev pub placesLeft : (stays : List ℕ) (s : ℕ) → ℕ
 placesLeft stays s = length (kept stays) * (s + 1)
 
--- "BUFFER if short; BADWIRE as the checker says if the old table isn't legal"
+-- "BUFFER if short; BADWIRE as the checker says if the old table isn't legal", in the numbers of the whole jumper. The checker looks at the old table's room
 abbrev pub routedRefusal : (a b : List ℤ) (stays : List ℕ) (s : ℕ) (d : ℤ) (table : List ℤ) (room : ℕ) → Checked
 routedRefusal a b stays s d table room = orElse (checkPart a b stays s d) (orElse (noRoom (placesLeft stays s) room) (routeChecked a b s d table))
 
@@ -33,8 +33,8 @@ partWritten stays s table out = wiresLeft stays s table ++ drop (placesLeft stay
 abbrev pub Room : (a : List ℤ) (stays : List ℕ) (s : ℕ) (table out : List ℤ) → Type 0
 Room a stays s table out = (length a * (s + 1) ≤ length table) × (placesLeft stays s ≤ length out)
 
--- What `part_route` promises of a buffer `out` and what it holds after the call, `out′`: the wires that its places mean are a legal wiring of the part, each the
--- old wire of its pair. BADWIRE names the wire and the track of the old table's first fault. A refusal writes nothing.
+-- What `part_route` promises of a buffer `out` and what it holds after the call, `out′`: the wires that its places mean are a legal wiring of the part, each
+-- the old wire of its pair. BADWIRE names the wire and the track of the old table's first fault. A refusal writes nothing.
 pub record RoutedAnswer (a b : List ℤ) (stays : List ℕ) (s : ℕ) (d : ℤ) (table out out′ : List ℤ) (r : Checked) : Type 0 where
   pub answer : r ≡ routedRefusal a b stays s d table (length out)
   pub buffer : out′ ≡ bufferAfter r (partWritten stays s table out) out

@@ -1,7 +1,7 @@
 -- WHICH PAIRS STAY, and which questions about a part we accept (02, #113). A lent row of bytes says it: "one a pair, 0 dropped, anything else kept".
 --
--- Worked: the bytes 1,0,7,1 keep pairs 0, 2 and 3. J = rows 0,1,4,5 and 1,2,3,4 is then left with rows 0,4,5 and 1,3,4. Three bytes for J are UNEQUAL; four bytes 0
--- are EMPTY, also for rows that have another fault.
+-- Worked: the bytes 1,0,7,1 keep pairs 0, 2 and 3. J = rows 0,1,4,5 and 1,2,3,4 is then left with rows 0,4,5 and 1,3,4. Three bytes for J are UNEQUAL; four
+-- bytes 0 are EMPTY, also where a column of J is out of range; and that is COLUMN also where its pair is dropped.
 use mathlib.Core.Bool.{cond}
 use mathlib.Core.Path.{_≡_}
 use mathlib.Core.List.{List, [], _∷_, _++_}
@@ -18,7 +18,8 @@ use Rattle.jumper.specs.declared.rows.Checked.{Checked}
 use Rattle.jumper.specs.declared.rows.Checked.the-variants.{Accepted, Refused}
 use Rattle.route.specs.Table.{columnIn, wires}
 
--- the numbers of the pairs that stay, among the first n. That these are all whose byte isn't 0, and no others, is the law `kept-exactly` of proofs/Keeping.antt
+-- the numbers of the pairs that stay, among the first n. That these are all whose byte isn't 0, and no others, each greater than the one before, are the laws
+-- `kept-exactly` and `kept-choice` of proofs/Keeping.antt
 unfoldable pub keptAmong : (stays : List ℕ) → ℕ → List ℕ
 keptAmong stays zero = []
 keptAmong stays (suc n) = cond (eqb (getD stays n 0) 0) (keptAmong stays n) (keptAmong stays n ++ (n ∷ []))

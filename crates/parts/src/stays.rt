@@ -7,7 +7,8 @@ ghost use lib.ListN.{length, take, drop};
 ghost use Rattle.jumper.specs.Limits.{maxTracks};
 ghost use Rattle.wiring.specs.Wiring.{pad};
 ghost use Rattle.route.specs.Table.{columns};
-ghost use Rattle.parts.specs.Stays.{kept, rowLeft, wiresLeft, PartCheck};
+ghost use Rattle.parts.specs.Stays.{kept, rowLeft, PartCheck};
+ghost use Rattle.parts.specs.Routed.{placesLeft, partWritten};
 use jumper::asked::check_asked;
 use jumper::refusal::Refusal;
 use jumper::rows::Checked;
@@ -58,8 +59,8 @@ pub(crate) fn check_part(a: &[i32], b: &[i32], stays: &[u8], s: usize, d: i32) -
     check_asked(a, b, s, d)
 }
 
-// The pads of a row that stay, side by side into the first places; how many they are is told. Every pad is stored and only those that stay move the place on, so
-// that no branch goes wrong: what stands beyond them is left open, in memory that is ours.
+// The pads of a row that stay, side by side into the first places; how many they are is told. Every pad is stored and only those that stay move the place on,
+// so that no branch goes wrong: what stands beyond them is left open, in memory that is ours.
 pub(crate) fn keep_pads(row: &[i32], stays: &[u8], out: &mut [i32]) -> usize
     requires { ⌜ (length (now stays) ≤ length (now row)) × (length (now stays) ≤ length (now out)) ⌝ }
     ensures { λ r. ⌜ (r ≡ length (kept (now (stays .entry)))) × (take r (now (out .exit)) ≡ rowLeft (now (stays .entry)) (now (row .entry))) ⌝ }
@@ -90,8 +91,8 @@ fn copy(table: &[i32], from: usize, k: usize, out: &mut [i32])
 
 // The wires of a table that stay, wire after wire, each with its s + 1 columns.
 pub(crate) fn keep_wires(table: &[i32], s: usize, stays: &[u8], out: &mut [i32])
-    requires { ⌜ (s ≤ maxTracks) × (length (now stays) * (s + 1) ≤ length (now table)) × (length (kept (now stays)) * (s + 1) ≤ length (now out)) ⌝ }
-    ensures { λ r. ⌜ now (out .exit) ≡ wiresLeft (now (stays .entry)) s (now (table .entry)) ++ drop (length (kept (now (stays .entry))) * (s + 1)) (now (out .entry)) ⌝ }
+    requires { ⌜ (s ≤ maxTracks) × (length (now stays) * (s + 1) ≤ length (now table)) × (placesLeft (now stays) s ≤ length (now out)) ⌝ }
+    ensures { λ r. ⌜ now (out .exit) ≡ partWritten (now (stays .entry)) s (now (table .entry)) (now (out .entry)) ⌝ }
 {
     let w = s + 1;
     let mut from: usize = 0;

@@ -41,15 +41,16 @@ part-pad [] a i h = absurd (omega arith)
 part-pad (k ∷ kept) a zero h = refl
 part-pad (k ∷ kept) a (suc i) h = part-pad kept a i (omega arith)
 
--- THE LAW OF DROPPED PAIRS: a separation and offset that fit still fit, whichever pairs are taken off. It needs no accepted and no rising rows; that a pair is left
--- isn't needed either
+-- THE LAW OF DROPPED PAIRS: a separation and offset that fit still fit, whichever pairs are taken off. It needs no accepted and no rising rows, and not even
+-- that a pair is left
 pub dropped-legal : (a b : List ℤ) {kept : List ℕ} → Choice (length a) kept → (s : ℕ) (d : ℤ) {w : ℕ → List Point} → Legal (length a) s (pad a) (topPad b d) w
     → Legal (length (partOf kept a)) s (pad (partOf kept a)) (topPad (partOf kept b) d) (λ i. w (pairOf kept i))
 dropped-legal a b {kept} c s d l =
     let top : (i : ℕ) → i < length kept → topPad (partOf kept b) d i ≡ topPad b d (pairOf kept i) = λ i h. ap (λ (x : ℤ). x +ℤ d) (part-pad kept b i h) in
     rw (part-length kept a) (wires-left (length kept) (length a) s (pairOf kept) (c .inside) (choice-less c) (part-pad kept a) top l)
 
-pub dropped-wiring : (a b : List ℤ) {kept : List ℕ} → Choice (length a) kept → (s : ℕ) (d : ℤ) → HasWiring a b s d → HasWiring (partOf kept a) (partOf kept b) s d
+pub dropped-wiring : (a b : List ℤ) {kept : List ℕ} → Choice (length a) kept → (s : ℕ) (d : ℤ)
+    → HasWiring a b s d → HasWiring (partOf kept a) (partOf kept b) s d
 dropped-wiring a b c s d w = (_, dropped-legal a b c s d (w .1))
 
 -- A PAIR ADDED AFTER THE LAST. The ends that pair i sets at s + 1 lie within those that it sets at s, and pad i + s is an old one
@@ -83,10 +84,9 @@ module _ (a b : List ℤ) (x y : ℤ) (e : length a ≡ length b) where
 
   -- without the last pair it is the jumper again
   pub shorter-wiring : (s : ℕ) (d : ℤ) → HasWiring (longer a x) (longer b y) s d → HasWiring a b s d
-  shorter-wiring s d w = (
-    _,
-    wires-left (length a) (length (longer a x)) s (λ i. i) (λ i h. omega (arith, longer-length)) (λ i j h g. h) (λ i h. sym (bottom i h)) (λ i h. sym (top d i h)) (w .1),
-  )
+  shorter-wiring s d w =
+      let inside : (i : ℕ) → i < length a → i < length (longer a x) = λ i h. omega (arith, longer-length) in
+      (_, wires-left (length a) (length (longer a x)) s (λ i. i) inside (λ i j h g. h) (λ i h. sym (bottom i h)) (λ i h. sym (top d i h)) (w .1))
 
   pub added-wiring : Rising (length (longer a x)) (pad (longer a x)) → Rising (length (longer a x)) (pad (longer b y))
       → (s : ℕ) (d : ℤ) → HasWiring a b s d → HasWiring (longer a x) (longer b y) (suc (suc (ruleAt s))) d

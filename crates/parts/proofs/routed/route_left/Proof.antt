@@ -6,6 +6,7 @@ use borrow.Author.Needs.{needs}
 use lib.ListN.{length}
 use mir.Syntax.{w32}
 use mir.ValLaws.{toZ-ofZ}
+use Rattle.jumper.specs.Limits.{maxPairs, maxTracks}
 use Rattle.jumper.specs.declared.rows.Checked.{Checked}
 use Rattle.route.specs.Check.{RouteCheck}
 use Rattle.parts.specs.Stays.{AskedPart}
@@ -14,11 +15,6 @@ use Rattle.parts.proofs.Keeping.{kept-few}
 use Rattle.parts.proofs.Answers.{table-lent, routed-short, routed-refused, routed-done}
 use Rattle.parts.proofs.routed.route_left.Statement.{statement}
 use Rattle.parts.proofs.routed.route_left.Tie as tie
-use Rattle.parts.proofs.routed.route_left.Reads as reads
-use Rattle.parts.proofs.routed.route_left.Lts as lts
-use Rattle.parts.proofs.stays.count.Reads as count-reads
-use Rattle.parts.proofs.stays.keep_wires.Reads as keep-wires-reads
-use Rattle.route.proofs.checking.check_route.Reads as check-route-reads
 
 asked : (start : tie.Start) → AskedPart (start .args .a .now) (start .args .b .now) (start .args .stays .now) (start .args .s) (start .args .d)
 asked start = start .pre
@@ -43,59 +39,49 @@ checked k r e =
 room : (k : At) → placesLeft (entered k .args .stays .now) (entered k .args .s) ≤ length (entered k .args .out .now)
 room k = rw (k .before .before .count .ensures) at (k .before .if1 .left)
 
--- src/routed.rt:43:9
 count-requires : tie.Need-count-requires
 count-requires c κs = search needs
 
--- src/routed.rt:44:25
 add-if1 : tie.Need-add-if1
 add-if1 c = let tracks = asked (c .before .before) .whole .tracks in search needs
 
--- src/routed.rt:44:20
 mul-if1 : tie.Need-mul-if1
 mul-if1 c =
     let start = c .before .before in
     let k = asked start in
-    let few : c .count .result ≤ 2048 = omega (arith, c .count .ensures, kept-few (start .args .stays .now) (length (start .args .stays .now)), k .bytes, k .whole .rows .few) in
-    let h : c .count .result * (start .args .s + 1) ≤ 2048 * 2050 = mul-le-mul {m₂ = 2050} few (omega (arith, k .whole .tracks)) in
+    let stays = start .args .stays .now in
+    let few : c .count .result ≤ maxPairs = omega (arith, c .count .ensures, kept-few stays (length stays), k .bytes, k .whole .rows .few) in
+    let h : c .count .result * (start .args .s + 1) ≤ maxPairs * (maxTracks + 1) = mul-le-mul {m₂ = maxTracks + 1} few (omega (arith, k .whole .tracks)) in
     omega arith
 
--- src/routed.rt:45:9
 returns : tie.Need-returns
 returns c =
     let start = c .before .before .before in
     routed-short _ _ _ _ _ _ _ (asked start) (rw (c .before .count .ensures) at (c .if1 .taken))
 
--- src/routed.rt:47:11
 check-route-requires : tie.Need-check-route-requires
 check-route-requires c κs = search needs
 
--- src/routed.rt:48:26
 enum-known-r : tie.Need-enum-known-r
 enum-known-r c = search needs
 
--- src/routed.rt:50:35
 enum-told : tie.Need-enum-told
 enum-told c = search needs
 
--- src/routed.rt:50:13
 keep-wires-requires : tie.Need-keep-wires-requires
 keep-wires-requires c κs =
     let k = c .before .before .before in
     let legal = checked k _ (c .before .enum-told .given .1) in
     table-lent _ _ _ _ _ (entered k .args .table .now) (entered k .args .out .now) (asked (entered k)) (room k) (legal .accepts .0 refl .1)
 
--- src/routed.rt:31:1
 returns-2 : tie.Need-returns-2
 returns-2 c =
     let k = c .before .before .before in
     routed-refused _ _ _ _ _ _ _ (asked (entered k)) (room k) _ (checked k _ (c .before .r .given .1))
 
--- src/routed.rt:31:1
 same-length : tie.Need-same-length
 same-length c = search needs
 
--- src/routed.rt:31:1
 returns-3 : tie.Need-returns-3
 returns-3 c =
     let told = c .before .before .before in

@@ -11,8 +11,6 @@ use Rattle.route.specs.Table.{columns}
 use Rattle.route.proofs.Places.{begun-next}
 use Rattle.parts.proofs.stays.copy.Statement.{statement}
 use Rattle.parts.proofs.stays.copy.Tie as tie
-use Rattle.parts.proofs.stays.copy.Reads as reads
-use Rattle.parts.proofs.stays.copy.Lts as lts
 
 abbrev Inv-loop : tie.InvT-loop
 Inv-loop table from k out₀ t₀ out t = (t ≤ k) × (length out ≡ length out₀) × (out ≡ columns (λ u. pad table (from + u)) t ++ drop t out₀)
@@ -20,40 +18,31 @@ Inv-loop table from k out₀ t₀ out t = (t ≤ k) × (length out ≡ length ou
 abbrev μ-loop : tie.MeasureT-loop
 μ-loop table from k out₀ t₀ out t = k - t
 
--- src/stays.rt:52:5
 loop-holds : tie.Need-loop-holds Inv-loop μ-loop
 unfolding columns
 loop-holds c = (omega arith, refl, refl)
 
--- src/stays.rt:53:24
 add-out : tie.Need-add-out Inv-loop μ-loop
 add-out c = search needs
 
--- src/stays.rt:53:18
 mul-out : tie.Need-mul-out Inv-loop μ-loop
 mul-out c = search needs
 
--- src/stays.rt:53:18
 shared-slice-copy-out-out : tie.Need-shared-slice-copy-out-out Inv-loop μ-loop
 shared-slice-copy-out-out c = search needs
 
--- src/stays.rt:53:9
 mul-t11 : tie.Need-mul-t11 Inv-loop μ-loop
 mul-t11 c = search needs
 
--- src/stays.rt:53:9
 slice-set-from-out : tie.Need-slice-set-from-out Inv-loop μ-loop
 slice-set-from-out c = search needs
 
--- src/stays.rt:54:9
 add-t : tie.Need-add-t Inv-loop μ-loop
 add-t c = search needs
 
--- src/stays.rt:52:5
 loop-less : tie.Need-loop-less Inv-loop μ-loop
 loop-less c = search needs
 
--- src/stays.rt:52:5
 loop-again : tie.Need-loop-again Inv-loop μ-loop
 loop-again c =
     let k = c .before .before in
@@ -63,11 +52,9 @@ loop-again c =
       begun-next (λ u. pad (s .table .now) (s .from + u)) (s .out .now) (k .loop .out) (k .loop .t) _ (omega arith) (back _ (c .out .given)) (k .loop .inv .2),
     )
 
--- src/stays.rt:47:1
 same-length : tie.Need-same-length Inv-loop μ-loop
 same-length c = c .before .loop .inv .1
 
--- src/stays.rt:47:1
 returns : tie.Need-returns Inv-loop μ-loop
 returns c =
     let k = c .before in

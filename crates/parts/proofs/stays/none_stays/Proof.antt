@@ -9,8 +9,6 @@ use Rattle.parts.specs.Stays.{keptAmong, kept}
 use Rattle.parts.proofs.Keeping.{kept-none, count-same, kept-room}
 use Rattle.parts.proofs.stays.none_stays.Statement.{statement}
 use Rattle.parts.proofs.stays.none_stays.Tie as tie
-use Rattle.parts.proofs.stays.none_stays.Reads as reads
-use Rattle.parts.proofs.stays.none_stays.Lts as lts
 
 abbrev Inv-loop : tie.InvT-loop
 Inv-loop stays k₀ k = (k ≤ length stays) × (length (keptAmong stays k) ≡ 0)
@@ -18,15 +16,12 @@ Inv-loop stays k₀ k = (k ≤ length stays) × (length (keptAmong stays k) ≡ 
 abbrev μ-loop : tie.MeasureT-loop
 μ-loop stays k₀ k = length stays - k
 
--- src/stays.rt:35:5
 loop-holds : tie.Need-loop-holds Inv-loop μ-loop
 loop-holds c = (omega arith, kept-none (c .args .stays .now))
 
--- src/stays.rt:36:12
 shared-slice-read-if1 : tie.Need-shared-slice-read-if1 Inv-loop μ-loop
 shared-slice-read-if1 c = search needs
 
--- src/stays.rt:37:13
 returns : tie.Need-returns Inv-loop μ-loop
 returns c =
     let at-loop = c .before .before .before in
@@ -34,21 +29,17 @@ returns c =
     let here = kept-room stays (length stays) (at-loop .loop .k) (c .before .before .loop-test .taken) (c .if1 .taken) in
     sym (ne-eqb (length (kept stays)) 0 (λ z. omega (arith, z, here)))
 
--- src/stays.rt:39:9
 add-k : tie.Need-add-k Inv-loop μ-loop
 add-k c = search needs
 
--- src/stays.rt:35:5
 loop-less : tie.Need-loop-less Inv-loop μ-loop
 loop-less c = search needs
 
--- src/stays.rt:35:5
 loop-again : tie.Need-loop-again Inv-loop μ-loop
 loop-again c =
     let at-loop = c .before .before .before in
     (omega arith, count-same (at-loop .before .args .stays .now) (at-loop .loop .k) (c .if1 .left) ∙ at-loop .loop .inv .1)
 
--- src/stays.rt:31:1
 returns-2 : tie.Need-returns-2 Inv-loop μ-loop
 returns-2 c =
     let at-loop = c .before in

@@ -11,10 +11,6 @@ use Rattle.parts.specs.Stays.{kept, rowLeft, AskedPart}
 use Rattle.parts.proofs.Left.{row-lent, row-count, row-inside}
 use Rattle.parts.proofs.still.fit_left.Statement.{statement}
 use Rattle.parts.proofs.still.fit_left.Tie as tie
-use Rattle.parts.proofs.still.fit_left.Reads as reads
-use Rattle.parts.proofs.still.fit_left.Lts as lts
-use Rattle.fit.proofs.misfit.fit.Reads as fit-reads
-use Rattle.parts.proofs.stays.keep_pads.Reads as keep-pads-reads
 
 -- what is asked of the part
 asked : (start : tie.Start) → AskedPart (start .args .a .now) (start .args .b .now) (start .args .stays .now) (start .args .s) (start .args .d)
@@ -48,45 +44,35 @@ top-left k =
     let same : k .keep-pads2 .result ≡ number k = k .keep-pads2 .ensures .0 ∙ sym (counted k) in
     rw same at (k .keep-pads2 .ensures .1)
 
--- src/still.rt:28:33
 slice-aggregate-keep-pads : tie.Need-slice-aggregate-keep-pads
 slice-aggregate-keep-pads c = search needs
 
--- src/still.rt:28:9
 keep-pads-requires : tie.Need-keep-pads-requires
 keep-pads-requires c κs = row-lent (asked (c .before .before)) (c .before .before .args .a .now) refl
 
--- src/still.rt:29:25
 slice-aggregate-keep-pads-2 : tie.Need-slice-aggregate-keep-pads-2
 slice-aggregate-keep-pads-2 c = search needs
 
--- src/still.rt:29:5
 keep-pads-requires-2 : tie.Need-keep-pads-requires-2
 keep-pads-requires-2 c κs =
     let start = c .before .before .before .before .before in
     row-lent (asked start) (start .args .b .now) (asked start .whole .rows .equal)
 
--- src/still.rt:30:17
 array-share-prefix-bottom : tie.Need-array-share-prefix-bottom
 array-share-prefix-bottom c = let k = c .before in row-inside _ (entered k .args .a .now) _ _ (counted k) (bottom-left k)
 
--- src/still.rt:30:9
 slice-aggregate-below : tie.Need-slice-aggregate-below
 slice-aggregate-below c = let k = c .before .before in row-count _ (entered k .args .a .now) _ _ (counted k) (bottom-left k)
 
--- src/still.rt:31:17
 array-share-prefix-top : tie.Need-array-share-prefix-top
 array-share-prefix-top c = let k = c .before .before in row-inside _ (entered k .args .b .now) _ _ (counted k) (top-left k)
 
--- src/still.rt:31:9
 slice-aggregate-above : tie.Need-slice-aggregate-above
 slice-aggregate-above c = let k = c .before .before .before in row-count _ (entered k .args .b .now) _ _ (counted k) (top-left k)
 
--- src/still.rt:32:5
 fit-requires : tie.Need-fit-requires
 fit-requires c κs = search needs
 
--- src/still.rt:22:1
 returns : tie.Need-returns
 returns c =
     let k = c .before .before .before .before in
