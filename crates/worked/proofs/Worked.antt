@@ -16,6 +16,7 @@ use Rattle.fit.specs.Least.{leastOf}
 use Rattle.best.specs.Halving.{fromEven, fromHalf, halvingIn}
 use Rattle.route.specs.Table.{columnIn, columns, wires}
 use Rattle.route.specs.Check.{startWrong, endWrong, stepsAside, runTouches, faultAt, wireFault, trackFault}
+use Rattle.parts.specs.Stays.{keptAmong}
 use Rattle.worked.specs.Table.{Case, case, table, caseAt}
 
 abbrev both : Bool → Bool → Bool
@@ -65,7 +66,7 @@ all-equal (c ∷ cs) t (suc k) h = all-equal cs (both-right (alike (c .told) (c 
 
 computed : allAlike table ≡ true
 unfolding ruleAt tracksFor firstBy faultAfter misfitFrom leastOf fromEven fromHalf halvingIn largerOf smallerOf rightward leftward entry columns wires
-    columnIn startWrong endWrong stepsAside runTouches faultAt wireFault trackFault
+    columnIn startWrong endWrong stepsAside runTouches faultAt wireFault trackFault keptAmong
 computed = refl
 
 pub worked : (k : ℕ) → k < length table → caseAt k .told ≡ caseAt k .hand

@@ -1,7 +1,7 @@
 -- The jumpers worked by hand, 01's marked with a star and those of 02's requests, as one table: what the definitions tell, beside what is said by hand.
 -- A separation above 0 is one more than 01 has it, for 02's #106. What stands in quotes is 01's, unchanged.
 -- That the two are equal in every case is the theorem `worked` of proofs/Worked.antt.
-use mathlib.Core.List.{List, [], _∷_, map}
+use mathlib.Core.List.{List, [], _∷_, _++_, map}
 use Prim.Native.Nat.{ℕ}
 use lib.ListN.{length, replicate, getD}
 use lib.IntN.{ℤ, pos, negsuc}
@@ -15,6 +15,8 @@ use Rattle.fit.specs.Stretch.{stretchOf}
 use Rattle.best.specs.Best.{bestNumbers, ladderOf, bestAnswer, ladderBy}
 use Rattle.route.specs.Draw.{allDrawn, bufferAfter, allRefusal}
 use Rattle.route.specs.Check.{routeChecked}
+use Rattle.parts.specs.Still.{stillOf}
+use Rattle.parts.specs.Routed.{routedRefusal, partWritten}
 
 pub record Jumper : Type 0 where
   pub bottom : List ℤ
@@ -47,6 +49,13 @@ C = record { bottom = negsuc 0 ∷ pos 0 ∷ pos 1 ∷ []; top = negsuc 1 ∷ po
 
 abbrev pub L : Jumper
 L = record { bottom = firstColumn ∷ []; top = firstColumn ∷ [] }
+
+-- 02, #113: P and Q are one pair with a pair added after the last, and one more; they are worked out at the head of parts' Grows.antt
+abbrev pub P : Jumper
+P = rows (0 ∷ 1 ∷ []) (0 ∷ 2 ∷ [])
+
+abbrev pub Q : Jumper
+Q = rows (0 ∷ 1 ∷ 2 ∷ []) (0 ∷ 2 ∷ 4 ∷ [])
 
 -- what the definitions tell, and what is said by hand
 pub record Case : Type 0 where
@@ -93,6 +102,13 @@ ladder j before = whole (ladderBy (bestAnswer (j .bottom) (j .top) before) (ladd
 abbrev pub drawnAt : Jumper → ℕ → ℤ → (out : List ℤ) → List ℤ
 drawnAt j s d out = bufferAfter (allRefusal (j .bottom) (j .top) s d (length out)) (allDrawn (j .bottom) (j .top) s d out) out
 
+-- 02, #113: whether a separation still does where only the pairs stay whose byte isn't 0, and what a buffer holds after the part's route was asked for
+abbrev pub stillAt : Jumper → (stays : List ℕ) → ℕ → ℤ → List ℤ
+stillAt j stays s d = resultOf (checkedNumbers (stillOf (j .bottom) (j .top) stays s d))
+
+abbrev pub routedAt : Jumper → (stays : List ℕ) → ℕ → ℤ → (table out : List ℤ) → List ℤ
+routedAt j stays s d table out = bufferAfter (routedRefusal (j .bottom) (j .top) stays s d table (length out)) (partWritten stays s table out) out
+
 -- and their answers. A least separation above 0 carries the witness at one track fewer: pair and side (1 RIGHT, 2 LEFT)
 abbrev pub least : (separation pair side : ℕ) → List ℤ
 least s i k = result 0 0 0 s (pos 0) (pos 0) i k 0
@@ -102,6 +118,9 @@ prevented i k = result 10 0 0 0 (pos 0) (pos 0) i k 0
 
 abbrev pub accepted : List ℤ
 accepted = result 0 0 0 0 (pos 0) (pos 0) 0 0 0
+
+abbrev pub refused : (number : ℕ) → List ℤ
+refused n = result n 0 0 0 (pos 0) (pos 0) 0 0 0
 
 abbrev pub badWire : (wire track : ℕ) → List ℤ
 badWire i t = result 16 i t 0 (pos 0) (pos 0) 0 0 0
@@ -114,6 +133,10 @@ noOffset l h = result 11 l h 0 (pos 0) (pos 0) 0 0 0
 
 abbrev pub found : (separation : ℕ) (lowest highest : ℤ) (count : ℕ) → List ℤ
 found s l h c = result 0 0 0 s l h 0 0 c
+
+-- J's route at (3, 0), which is drawn, and of which a part's is made
+abbrev pub routeOfJ : List ℤ
+routeOfJ = whole (0 ∷ 0 ∷ 0 ∷ 1 ∷ 1 ∷ 1 ∷ 2 ∷ 2 ∷ 4 ∷ 4 ∷ 3 ∷ 3 ∷ 5 ∷ 5 ∷ 5 ∷ 4 ∷ [])
 
 abbrev pub table : List Case
 table =
@@ -137,7 +160,7 @@ table =
     ∷ case (ladder J (lent 8)) (whole (4 ∷ 2 ∷ 2 ∷ 1 ∷ 1 ∷ 0 ∷ 9 ∷ 9 ∷ []))
     ∷ case (rangeAt J 2) (noOffset 2 0)
     -- J drawn at (3, 0): 0,0,0,1 / 1,1,2,2 / 4,4,3,3 / 5,5,5,4
-    ∷ case (drawnAt J 3 (pos 0) (whole (lent 18))) (whole (0 ∷ 0 ∷ 0 ∷ 1 ∷ 1 ∷ 1 ∷ 2 ∷ 2 ∷ 4 ∷ 4 ∷ 3 ∷ 3 ∷ 5 ∷ 5 ∷ 5 ∷ 4 ∷ 9 ∷ 9 ∷ []))
+    ∷ case (drawnAt J 3 (pos 0) (whole (lent 18))) (routeOfJ ++ whole (lent 2))
     -- T's range at 0, at 1 and at 2, as many tracks as pairs, is -1..-1; at 3, -131,070..131,070
     ∷ case (rangeAt T 0) (range (negsuc 0) (negsuc 0))
     ∷ case (rangeAt T 1) (range (negsuc 0) (negsuc 0))
@@ -165,6 +188,23 @@ table =
     ∷ case (leastAt C (negsuc 131069)) (least 4 0 2)
     -- L drawn at (2, -131,070): column -65,535 twice, then -196,605
     ∷ case (drawnAt L 2 (negsuc 131069) (whole (lent 3))) (negsuc 65534 ∷ negsuc 65534 ∷ negsuc 196604 ∷ [])
+    -- J without pair 1 still fits at (3, 0); at (2, 0) pair 1 of the part prevents it, LEFT; at (2, 1) it fits, where J doesn't
+    ∷ case (stillAt J (1 ∷ 0 ∷ 7 ∷ 1 ∷ []) 3 (pos 0)) accepted
+    ∷ case (stillAt J (1 ∷ 0 ∷ 7 ∷ 1 ∷ []) 2 (pos 0)) (prevented 1 2)
+    ∷ case (stillAt J (1 ∷ 0 ∷ 7 ∷ 1 ∷ []) 2 (pos 1)) accepted
+    ∷ case (fitAt J 2 (pos 1)) (prevented 0 1)
+    -- a byte too few: UNEQUAL; none stays: EMPTY
+    ∷ case (stillAt J (1 ∷ 0 ∷ 7 ∷ []) 3 (pos 0)) (refused 1)
+    ∷ case (stillAt J (0 ∷ 0 ∷ 0 ∷ 0 ∷ []) 3 (pos 0)) (refused 2)
+    -- the part's route: J's without wire 1; a place too few, and nothing is written
+    ∷ case (routedAt J (1 ∷ 0 ∷ 7 ∷ 1 ∷ []) 3 (pos 0) routeOfJ (whole (lent 13))) (whole (0 ∷ 0 ∷ 0 ∷ 1 ∷ 4 ∷ 4 ∷ 3 ∷ 3 ∷ 5 ∷ 5 ∷ 5 ∷ 4 ∷ 9 ∷ []))
+    ∷ case (routedAt J (1 ∷ 0 ∷ 7 ∷ 1 ∷ []) 3 (pos 0) routeOfJ (whole (lent 11))) (whole (lent 11))
+    -- a pair added: rows 0 and 0 have best 0 and, above, least 0; P both 2; Q best 2, least 3
+    ∷ case (best (rows (0 ∷ []) (0 ∷ []))) (found 0 (pos 0) (pos 0) 0)
+    ∷ case (leastAt P (pos 0)) (least 2 1 1)
+    ∷ case (best P) (found 2 (negsuc 0) (pos 0) 4)
+    ∷ case (leastAt Q (pos 0)) (least 3 1 1)
+    ∷ case (best Q) (found 2 (negsuc 0) (negsuc 0) 8)
     ∷ []
 
 -- the case at a place of the table

@@ -7,6 +7,7 @@ use best::plan::best_of;
 use fit::least::least_at;
 use fit::misfit::fit;
 use jumper::refusal::Numbers;
+use parts::still::still_fits;
 use route::checking::check_route;
 
 fn put(words: &[u8]) {
@@ -210,6 +211,25 @@ fn one_pair_fewer() {
     );
 }
 
+// 02, #113: S's record, 5 tracks at offset 0, still serves S with its third pair bare. 3 would do, and at 2 its first pair prevents it.
+fn third_pair_bare() {
+    let a = [0i32, 1, 2, 3];
+    let b = [1i32, 2, 3, 4];
+    let stays = [1u8, 1, 0, 1];
+    show_witness(
+        b"S with its third pair bare, at 5",
+        still_fits(&a, &b, &stays, 5, 0).numbers(),
+    );
+    show_witness(
+        b"S with its third pair bare, at 3",
+        still_fits(&a, &b, &stays, 3, 0).numbers(),
+    );
+    show_witness(
+        b"S with its third pair bare, at 2",
+        still_fits(&a, &b, &stays, 2, 0).numbers(),
+    );
+}
+
 fn main() {
     pairs();
     columns();
@@ -220,4 +240,5 @@ fn main() {
     twice_the_half();
     along_the_stiffeners();
     one_pair_fewer();
+    third_pair_bare();
 }
