@@ -32,12 +32,12 @@ pub(crate) fn count(stays: &[u8]) -> usize
 fn none_stays(stays: &[u8]) -> bool
     ensures { λ r. ⌜ r ≡ eqb (length (kept (now (stays .entry)))) 0 ⌝ }
 {
-    let mut k: usize = 0;
-    while k < stays.len() {
-        if stays[k] != 0 {
+    let mut passed: usize = 0;
+    while passed < stays.len() {
+        if stays[passed] != 0 {
             return false;
         }
-        k += 1;
+        passed += 1;
     }
     true
 }
