@@ -7,6 +7,7 @@ use lib.ListN.{length, take}
 use lib.IntN.{ℤ}
 use mir.Syntax.{w32}
 use mir.ValLaws.{toZ-ofZ}
+use Rattle.fit.specs.Misfit.{FitAnswer}
 use Rattle.parts.specs.Stays.{kept, rowLeft, AskedPart}
 use Rattle.parts.proofs.Left.{row-lent, row-count, row-inside}
 use Rattle.parts.proofs.still.fit_left.Statement.{statement}
@@ -77,7 +78,10 @@ returns : tie.Need-returns
 returns c =
     let k = c .before .before .before .before in
     let start = entered k in
-    rw (toZ-ofZ w32 (start .args .d) (start .fits .d), bottom-left k, top-left k) at (c .fit .ensures)
+    let said : FitAnswer (take (number k) (bottom k)) (take (number k) (top k)) (start .args .s) (start .args .d) (c .fit .result) =
+    rw (toZ-ofZ w32 (start .args .d) (start .fits .d)) at (c .fit .ensures)
+    in
+    rw (bottom-left k, top-left k) at said
 
 pub fit-left-spec : {M : Type 1} → statement M
 fit-left-spec =
