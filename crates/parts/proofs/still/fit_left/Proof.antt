@@ -78,9 +78,8 @@ returns : tie.Need-returns
 returns c =
     let k = c .before .before .before .before in
     let start = entered k in
-    let said : FitAnswer (take (number k) (bottom k)) (take (number k) (top k)) (start .args .s) (start .args .d) (c .fit .result) =
-    rw (toZ-ofZ w32 (start .args .d) (start .fits .d)) at (c .fit .ensures)
-    in
+    let e = toZ-ofZ w32 (start .args .d) (start .fits .d) in
+    let said : FitAnswer (take (number k) (bottom k)) (take (number k) (top k)) (start .args .s) (start .args .d) (c .fit .result) = rw e at (c .fit .ensures) in
     rw (bottom-left k, top-left k) at said
 
 pub fit-left-spec : {M : Type 1} → statement M
