@@ -11,7 +11,7 @@ ghost use Rattle.best.specs.Best.{bestNumbers, bestAnswer, ladderBy, ladderOf, 
 ghost use Rattle.route.specs.Draw.{wireRefusal, allRefusal, bufferAfter, wireDrawn, allDrawn, DrawWireAnswer, DrawAllAnswer};
 ghost use Rattle.route.specs.Check.{routeChecked, RouteCheck};
 ghost use Rattle.parts.specs.Still.{stillOf, StillAnswer};
-ghost use Rattle.parts.specs.Routed.{routedRefusal, partWritten, RoutedAnswer};
+ghost use Rattle.parts.specs.Routed.{routedRefusal, routedBuffer, RoutedAnswer};
 ghost use Rattle.form.specs.Line.{LineAnswer};
 ghost use Rattle.catalog_c.specs.InNumbers.{InNumbers};
 use fit::stretch::Place;
@@ -141,7 +141,7 @@ pub extern "C" fn obrastyn_part_route(
     out: &mut [i32],
 ) -> Numbers
     ensures answer { λ r. ⌜ r ≡ checkedNumbers (routedRefusal (now (a .entry)) (now (b .entry)) (now (stays .entry)) s d (now (table .entry)) (length (now (out .entry)))) ⌝ }
-    ensures buffer { λ r. ⌜ now (out .exit) ≡ bufferAfter (routedRefusal (now (a .entry)) (now (b .entry)) (now (stays .entry)) s d (now (table .entry)) (length (now (out .entry)))) (partWritten (now (stays .entry)) s (now (table .entry)) (now (out .entry))) (now (out .entry)) ⌝ }
+    ensures buffer { λ r. ⌜ now (out .exit) ≡ routedBuffer (now (a .entry)) (now (b .entry)) (now (stays .entry)) s d (now (table .entry)) (now (out .entry)) ⌝ }
     ensures means { λ r. ⌜ InNumbers checkedNumbers (RoutedAnswer (now (a .entry)) (now (b .entry)) (now (stays .entry)) s d (now (table .entry)) (now (out .entry)) (now (out .exit))) r ⌝ }
 {
     parts::routed::part_route(a, b, stays, s, d, table, out).numbers()

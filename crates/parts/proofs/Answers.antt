@@ -1,9 +1,9 @@
 -- WHAT THE CALLS PROMISE, from what their parts find.
 -- Sections: the check; still_fits; part_route.
-use mathlib.Core.Path.{_≡_, refl, sym, ap, _∙_}
-use mathlib.Core.Bool.{Bool, true, false}
-use mathlib.Core.List.{List, [], _∷_, _++_}
-use mathlib.Core.Logic.{_≢_, _↔_}
+use mathlib.Core.Path.{_≡_, refl, sym, _∙_}
+use mathlib.Core.Bool.{true, false}
+use mathlib.Core.List.{List}
+use mathlib.Core.Logic.{_⊎_, inl, inr, ⊎-elim, _≢_}
 use Prim.Native.Nat.{ℕ, _+_, _*_, _≤_, _<_}
 use native.Mathlib.Decide.{decLt}
 use native.Mathlib.Omega.{arith}
@@ -15,7 +15,7 @@ use Rattle.wiring.specs.Wiring.{pad, topPad}
 use Rattle.wiring.proofs.Parts.{part-length, dropped-legal, dropped-wiring}
 use Rattle.jumper.specs.Limits.{maxTracks}
 use Rattle.jumper.specs.Refusals.{refusalNumbers}
-use Rattle.jumper.specs.Rows.{checkedNumbers, pick, orElse}
+use Rattle.jumper.specs.Rows.{checkedNumbers, pick}
 use Rattle.jumper.specs.Asked.{checkAsked, Asked}
 use Rattle.jumper.specs.declared.refusal.Refusal.{Refusal}
 use Rattle.jumper.specs.declared.refusal.Refusal.the-variants.{Unequal, Empty, Buffer}
@@ -28,11 +28,10 @@ use Rattle.route.specs.Table.{columnIn, LegalRoute}
 use Rattle.route.specs.Check.{RouteCheck}
 use Rattle.route.proofs.Places.{wires-at}
 use Rattle.route.proofs.Answers.{legal-same}
-use Rattle.parts.specs.Stays.{kept, rowLeft, wiresLeft, staysFault, checkPart, AskedPart, PartCheck}
+use Rattle.parts.specs.Stays.{kept, rowKept, wireKept, staysFault, checkPart, AskedPart, PartCheck}
 use Rattle.parts.specs.Still.{StillAnswer}
-use Rattle.parts.specs.Routed.{placesLeft, partWritten, Room, RoutedAnswer}
-use Rattle.parts.proofs.Copies.{left}
-use Rattle.parts.proofs.Left.{left-choice, left-asked}
+use Rattle.parts.specs.Routed.{placesKept, partWritten, RoutedAnswer}
+use Rattle.parts.proofs.Remains.{part-choice, part-asked}
 
 module _ (a b : List ℤ) (stays : List ℕ) (s : ℕ) (d : ℤ) where
   -- THE CHECK lets through exactly what is accepted
@@ -102,16 +101,16 @@ module _ (a b : List ℤ) (stays : List ℕ) (s : ℕ) (d : ℤ) where
         }
 
   -- what `fit` answers of the rows left
-  pub still-found : checkPart a b stays s d ≡ Accepted → (r : Checked) → FitAnswer (rowLeft stays a) (rowLeft stays b) s d r → StillAnswer a b stays s d r
+  pub still-found : checkPart a b stays s d ≡ Accepted → (r : Checked) → FitAnswer (rowKept stays a) (rowKept stays b) s d r → StillAnswer a b stays s d r
   still-found e r f =
       let k = accepted-part e in
-      let l = left-asked k in
+      let l = part-asked k in
       record {
         answer = f .answer ∙ rw (asked-accepted _ _ _ _ l, e);
         fits = ((λ z. (k, f .fits .0 z .1)), (λ z. f .fits .1 (l, z .1)));
         prevents = ((λ z. (k, f .prevents .0 z .1)), (λ z. f .prevents .1 (l, z .1)));
         witness = f .witness;
-        serves = λ q w. f .fits .1 (l, dropped-wiring a b (left-choice k) s d w);
+        serves = λ q w. f .fits .1 (l, dropped-wiring a b (part-choice k) s d w);
       }
 
 -- PART_ROUTE, of the old table and of what the buffer holds before
@@ -137,25 +136,25 @@ module _ (a b : List ℤ) (stays : List ℕ) (s : ℕ) (d : ℤ) (table out : Li
     e = part-accepted a b stays s d k
 
     -- what is lent to the leaf that writes them
-    pub table-lent : placesLeft stays s ≤ length out → length a * (s + 1) ≤ length table
-        → (s ≤ maxTracks) × (length stays * (s + 1) ≤ length table) × (length (kept stays) * (s + 1) ≤ length out)
+    pub table-lent : placesKept stays s ≤ length out → length a * (s + 1) ≤ length table
+        → (s ≤ maxTracks) × (length stays * (s + 1) ≤ length table) × (placesKept stays s ≤ length out)
     table-lent room long = (k .whole .tracks, rw (← k .bytes) long, room)
 
-    pub routed-short : length out < placesLeft stays s → RoutedAnswer a b stays s d table out out (Refused Buffer)
+    pub routed-short : length out < placesKept stays s → RoutedAnswer a b stays s d table out out (Refused Buffer)
     routed-short h =
         record {
-          answer = sym (rw (e, lt-ltb (length out) (placesLeft stays s) h));
+          answer = sym (rw (e, lt-ltb (length out) (placesKept stays s) h));
           buffer = refl;
           refused = λ z. refl;
           routes = ((λ z. absurd (omega arith)), (λ z. absurd (omega (arith, z .1 .1))));
-          short = ((λ z. (k, λ room. omega (arith, room .1))), (λ z. refl));
+          short = ((λ z. (k, inr h)), (λ z. refl));
           faulty = ((λ z. absurd (omega arith)), (λ z. absurd (omega (arith, z .1 .1))));
           fault = λ z. absurd (omega arith);
           places = λ z. absurd (omega arith);
           legal = λ z. absurd (omega arith);
         }
 
-    module _ (room : placesLeft stays s ≤ length out) where
+    module _ (room : placesKept stays s ≤ length out) where
       -- the checker gives BUFFER exactly for a short table: of one that it can read it says 0 or 16
       module _ (r : Checked) (f : RouteCheck a b s d table r) where
         table-short : length table < length a * (s + 1) → checkedNumbers r .refusal ≡ 9
@@ -171,42 +170,42 @@ module _ (a b : List ℤ) (stays : List ℕ) (s : ℕ) (d : ℤ) (table out : Li
       pub routed-refused : (r : Refusal) → RouteCheck a b s d table (Refused r) → RoutedAnswer a b stays s d table out out (Refused r)
       routed-refused r f =
           record {
-            answer = f .answer ∙ sym (rw (e, le-ltb (length out) (placesLeft stays s) room));
+            answer = f .answer ∙ sym (rw (e, le-ltb (length out) (placesKept stays s) room));
             buffer = refl;
             refused = λ z. refl;
             routes = ((λ z. absurd (numbered r z)), (λ z. f .accepts .1 (k .whole, z .1 .0, z .2)));
-            short = ((λ z. (k, λ lent. table-long (Refused r) f (lent .0) z)), (λ z. short-of (z .1) (decLt (length table) (length a * (s + 1)))));
+            short = ((λ z. (k, short-table z (decLt (length table) (length a * (s + 1))))), (λ z. ⊎-elim (table-short (Refused r) f) (λ h. absurd (omega arith)) (z .1)));
             faulty = ((λ z. let q = f .refuses .0 z in (k, (q .1, room), q .2)), (λ z. f .refuses .1 (k .whole, z .1 .0, z .2)));
             fault = f .fault;
             places = λ z. absurd (numbered r z);
             legal = λ z. absurd (numbered r z);
           }
         where
-          short-of : (Room a stays s table out → ⊥) → Dec (length table < length a * (s + 1)) → refusalNumbers r .refusal ≡ 9
-          short-of not (yes h) = table-short (Refused r) f h
-          short-of not (no h) = absurd (not (omega arith, room))
+          short-table : refusalNumbers r .refusal ≡ 9 → Dec (length table < length a * (s + 1)) → (length table < length a * (s + 1)) ⊎ (length out < placesKept stays s)
+          short-table z (yes h) = inl h
+          short-table z (no h) = absurd (table-long (Refused r) f (omega arith) z)
 
       -- the table was legal, so the wires that stay are a legal wiring of the part
       pub routed-done : RouteCheck a b s d table Accepted → (out′ : List ℤ) → out′ ≡ partWritten stays s table out
           → RoutedAnswer a b stays s d table out out′ Accepted
       routed-done f out′ g =
           record {
-            answer = f .answer ∙ sym (rw (e, le-ltb (length out) (placesLeft stays s) room));
+            answer = f .answer ∙ sym (rw (e, le-ltb (length out) (placesKept stays s) room));
             buffer = g;
             refused = λ z. absurd (z refl);
             routes = ((λ z. (k, (was .1, room), was .2)), (λ z. refl));
-            short = ((λ z. absurd (omega arith)), (λ z. absurd (z .1 (was .1, room))));
+            short = ((λ z. absurd (omega arith)), (λ z. ⊎-elim (λ h. absurd (omega (arith, was .1))) (λ h. absurd (omega arith)) (z .1)));
             faulty = ((λ z. absurd (omega arith)), (λ z. absurd (z .2 (was .2))));
             fault = λ z. absurd (omega arith);
             places = λ z i t. there i t;
             legal = λ z.
-                legal-same (length (rowLeft stays a)) s (pad (rowLeft stays a)) (topPad (rowLeft stays b) d) (left stays s table) (columnIn out′ s)
+                legal-same (length (rowKept stays a)) s (pad (rowKept stays a)) (topPad (rowKept stays b) d) (wireKept stays s table) (columnIn out′ s)
                 (λ i t h l. sym (there i t (omega (arith, part-length (kept stays) a)) l))
-                (dropped-legal a b (left-choice k) s d (was .2));
+                (dropped-legal a b (part-choice k) s d (was .2));
           }
         where
           was : Asked a b s d × (length a * (s + 1) ≤ length table) × LegalRoute a b s d table
           was = f .accepts .0 refl
 
-          there : (i t : ℕ) → i < length (kept stays) → t ≤ s → columnIn out′ s i t ≡ left stays s table i t
-          there i t h l = rw g (wires-at (left stays s table) s (length (kept stays)) i t (drop (placesLeft stays s) out) h l)
+          there : (i t : ℕ) → i < length (kept stays) → t ≤ s → columnIn out′ s i t ≡ wireKept stays s table i t
+          there i t h l = rw g (wires-at (wireKept stays s table) s (length (kept stays)) i t (drop (placesKept stays s) out) h l)

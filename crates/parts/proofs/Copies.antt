@@ -2,19 +2,20 @@
 use mathlib.Core.Path.{_≡_, refl, sym, ap, _∙_}
 use mathlib.Core.List.{List, [], _∷_, _++_, map-append}
 use mathlib.Core.Logic.{_≢_}
-use Prim.Native.Nat.{ℕ, zero, suc, _+_, _-_, _*_, _≤_, _<_}
+use Prim.Native.Nat.{ℕ, _+_, _-_, _*_, _≤_, _<_}
 use native.Mathlib.Nat.{suc-mul}
 use native.Mathlib.Numerals.{add-one}
 use native.Mathlib.Omega.{arith}
 use lib.ListN.{length, getD, set, take, drop, length-set}
 use lib.Seq.{take-set-le, take-suc-set}
-use lib.IntN.{ℤ, pos}
+use lib.IntN.{ℤ}
 use Rattle.wiring.specs.Wiring.{pad}
 use Rattle.wiring.specs.Part.{pairOf, partOf}
-use Rattle.route.specs.Table.{columnIn, columns, wires}
+use Rattle.route.specs.Table.{columnIn, columns}
 use Rattle.route.proofs.Places.{columns-same, place-in, put, Drawn, drawn-none, drawn-all, drawn-room, drawn-part, drawn-next}
-use Rattle.parts.specs.Stays.{keptAmong, kept, rowLeft, wiresLeft}
-use Rattle.parts.proofs.Keeping.{kept-none, kept-dropped, kept-stays, count-same, count-more, kept-few, kept-room, kept-pair}
+use Rattle.parts.specs.Stays.{keptAmong, kept, rowKept, wireKept}
+use Rattle.parts.specs.Routed.{placesKept, partWritten}
+use Rattle.parts.proofs.Keeping.{kept-none, kept-dropped, kept-stays, as-many, one-more, kept-few, kept-room, kept-pair}
 
 -- THE PADS THAT STAY of the first k stand in the first `at` places; beyond them may stand anything
 pub record Filled (stays : List ℕ) (row out₀ : List ℤ) (at k : ℕ) (out : List ℤ) : Type 0 where
@@ -27,7 +28,7 @@ unfolding keptAmong
 filled-none stays row out₀ = record { number = refl; same = refl; pads = refl }
 
 pub filled-all : {stays : List ℕ} {row out₀ : List ℤ} {at k : ℕ} {out : List ℤ} → k ≡ length stays → Filled stays row out₀ at k out
-    → (at ≡ length (kept stays)) × (take at out ≡ rowLeft stays row)
+    → (at ≡ length (kept stays)) × (take at out ≡ rowKept stays row)
 filled-all e f = (rw e at (f .number), rw e at (f .pads))
 
 module _ {stays : List ℕ} {row out₀ : List ℤ} {at k : ℕ} {out : List ℤ}
@@ -42,7 +43,7 @@ module _ {stays : List ℕ} {row out₀ : List ℤ} {at k : ℕ} {out : List ℤ
   pub filled-dropped : (x : ℤ) → getD stays k 0 ≡ 0 → Filled stays row out₀ at (k + 1) (set out at x)
   filled-dropped x e =
       record {
-        number = f .number ∙ sym (count-same stays k e);
+        number = f .number ∙ sym (as-many stays k e);
         same = stored x;
         pads = rw (add-one k, kept-dropped stays k e) (take-set-le at out at x (omega arith) ∙ f .pads);
       }
@@ -50,31 +51,27 @@ module _ {stays : List ℕ} {row out₀ : List ℤ} {at k : ℕ} {out : List ℤ
   pub filled-stays : (x : ℤ) → x ≡ pad row k → getD stays k 0 ≢ 0 → Filled stays row out₀ (at + 1) (k + 1) (set out at x)
   filled-stays x here e =
       record {
-        number = omega (arith, f .number, count-more stays k e);
+        number = omega (arith, f .number, one-more stays k e);
         same = stored x;
         pads =
             rw (add-one at, add-one k, kept-stays stays k e)
             (take-suc-set out at x filled-room ∙ rw (f .pads, here) (sym (map-append (pad row) (keptAmong stays k) (k ∷ []))));
       }
 
--- the wires that stay, by their number in the part
-abbrev pub left : (stays : List ℕ) (s : ℕ) (table : List ℤ) → ℕ → ℕ → ℤ
-left stays s table i = columnIn table s (pairOf (kept stays) i)
-
 -- THE WIRES THAT STAY of the first i stand in what was out₀, `at` is the place after them, and wire i, at place `from` of the table, is the next to read
 pub record Held (stays : List ℕ) (s : ℕ) (table out₀ : List ℤ) (from at i : ℕ) (out : List ℤ) : Type 0 where
   pub next : from ≡ i * (s + 1)
-  pub written : Drawn (left stays s table) s (length (kept stays)) out₀ (length (keptAmong stays i)) at out
+  pub written : Drawn (wireKept stays s table) s (length (kept stays)) out₀ (length (keptAmong stays i)) at out
 
 pub held-none : (stays : List ℕ) (s : ℕ) (table out₀ : List ℤ) → Held stays s table out₀ 0 0 0 out₀
 held-none stays s table out₀ =
-    record { next = omega arith; written = rw (kept-none stays) (drawn-none (left stays s table) s (length (kept stays)) out₀) }
+    record { next = omega arith; written = rw (kept-none stays) (drawn-none (wireKept stays s table) s (length (kept stays)) out₀) }
 
 pub held-all : {stays : List ℕ} {s : ℕ} {table out₀ : List ℤ} {from at i : ℕ} {out : List ℤ} → i ≡ length stays → Held stays s table out₀ from at i out
-    → out ≡ wiresLeft stays s table ++ drop (length (kept stays) * (s + 1)) out₀
+    → out ≡ partWritten stays s table out₀
 held-all {stays} {s} {table} {out₀} {from} {at} {i} {out} e h =
     let all : length (keptAmong stays i) ≡ length (kept stays) = ap (λ (n : ℕ). length (keptAmong stays n)) e in
-    drawn-all (left stays s table) s (length (kept stays)) out₀ (length (keptAmong stays i)) at out all (h .written)
+    drawn-all (wireKept stays s table) s (length (kept stays)) out₀ (length (keptAmong stays i)) at out all (h .written)
 
 module _ {stays : List ℕ} {s : ℕ} {table out₀ : List ℤ} {from at i : ℕ} {out : List ℤ} (lt : i < length stays) (h : Held stays s table out₀ from at i out) where
   -- wire i is there to be read
@@ -85,9 +82,9 @@ module _ {stays : List ℕ} {s : ℕ} {table out₀ : List ℤ} {from at i : ℕ
   after = rw (add-one i) (omega (arith, h .next, suc-mul i (s + 1)))
 
   pub held-dropped : getD stays i 0 ≡ 0 → Held stays s table out₀ (from + (s + 1)) at (i + 1) out
-  held-dropped e = record { next = after; written = rw (count-same stays i e) (h .written) }
+  held-dropped e = record { next = after; written = rw (as-many stays i e) (h .written) }
 
-  module _ (byte : getD stays i 0 ≢ 0) (room : length (kept stays) * (s + 1) ≤ length out₀) where
+  module _ (byte : getD stays i 0 ≢ 0) (room : placesKept stays s ≤ length out₀) where
     -- its number in the part
     abbrev j : ℕ
     j = length (keptAmong stays i)
@@ -96,21 +93,21 @@ module _ {stays : List ℕ} {s : ℕ} {table out₀ : List ℤ} {from at i : ℕ
     fewer = kept-room stays (length stays) i lt byte
 
     pub held-room : at + (s + 1) ≤ length out₀
-    held-room = drawn-room (left stays s table) s (length (kept stays)) out₀ j at out fewer room (h .written)
+    held-room = drawn-room (wireKept stays s table) s (length (kept stays)) out₀ j at out fewer room (h .written)
 
     pub held-part : s < length (take (length out - at) (drop at out))
-    held-part = drawn-part (left stays s table) s (length (kept stays)) out₀ j at out fewer room (h .written)
+    held-part = drawn-part (wireKept stays s table) s (length (kept stays)) out₀ j at out fewer room (h .written)
 
     -- what was copied is the wire of that number
-    copied : columns (λ t. pad table (from + t)) (s + 1) ≡ columns (left stays s table j) (s + 1)
+    copied : columns (λ t. pad table (from + t)) (s + 1) ≡ columns (wireKept stays s table j) (s + 1)
     unfolding columnIn
     copied =
         let there : pairOf (kept stays) j ≡ i = kept-pair stays (length stays) i lt byte in
-        columns-same (λ t. pad table (from + t)) (left stays s table j) (s + 1) (λ t l. rw (there, h .next))
+        columns-same (λ t. pad table (from + t)) (wireKept stays s table j) (s + 1) (λ t l. rw (there, h .next))
 
     pub held-stays : (ys : List ℤ) → ys ≡ columns (λ t. pad table (from + t)) (s + 1) ++ drop (s + 1) (take (length out - at) (drop at out))
         → Held stays s table out₀ (from + (s + 1)) (at + (s + 1)) (i + 1) (put at out ys)
     held-stays ys e =
         let f = e ∙ ap (λ (xs : List ℤ). xs ++ drop (s + 1) (take (length out - at) (drop at out))) copied in
-        let g = drawn-next (left stays s table) s (length (kept stays)) out₀ j at out fewer room (h .written) ys f in
-        record { next = after; written = rw (count-more stays i byte) g }
+        let g = drawn-next (wireKept stays s table) s (length (kept stays)) out₀ j at out fewer room (h .written) ys f in
+        record { next = after; written = rw (one-more stays i byte) g }

@@ -28,11 +28,11 @@ module _ (stays : List ℕ) (n : ℕ) where
   kept-stays e = rw (ne-eqb (getD stays n 0) 0 e)
 
   -- and the number of pairs that stay
-  pub count-same : getD stays n 0 ≡ 0 → length (keptAmong stays (n + 1)) ≡ length (keptAmong stays n)
-  count-same e = rw (add-one n, kept-dropped e)
+  pub as-many : getD stays n 0 ≡ 0 → length (keptAmong stays (n + 1)) ≡ length (keptAmong stays n)
+  as-many e = rw (add-one n, kept-dropped e)
 
-  pub count-more : getD stays n 0 ≢ 0 → length (keptAmong stays (n + 1)) ≡ length (keptAmong stays n) + 1
-  count-more e = rw (add-one n, kept-stays e) (length-append (keptAmong stays n) (n ∷ []))
+  pub one-more : getD stays n 0 ≢ 0 → length (keptAmong stays (n + 1)) ≡ length (keptAmong stays n) + 1
+  one-more e = rw (add-one n, kept-stays e) (length-append (keptAmong stays n) (n ∷ []))
 
 -- by cases of the next byte
 abbrev Goes : (stays : List ℕ) (n : ℕ) → Type 0
@@ -116,19 +116,19 @@ module _ (stays : List ℕ) (n k : ℕ) (lt : k < n) (byte : getD stays k 0 ≢ 
   kept-pair = let s = split in rw (s .1) (getD-append-seam (keptAmong stays k) k (s .0) 0)
 
 -- THE PAIRS THAT STAY are exactly those whose byte isn't 0
-abbrev Stays : (stays : List ℕ) (n k : ℕ) → Type 0
-Stays stays n k = (k < n) × (getD stays k 0 ≢ 0)
+abbrev pub Marked : (stays : List ℕ) (n k : ℕ) → Type 0
+Marked stays n k = (k < n) × (getD stays k 0 ≢ 0)
 
-abbrev Among : List ℕ → ℕ → Type 0
+abbrev pub Among : List ℕ → ℕ → Type 0
 Among ks k = (i : ℕ) × (i < length ks) × (pairOf ks i ≡ k)
 
-next-found : (stays : List ℕ) (n k : ℕ) → (Among (keptAmong stays n) k → Stays stays n k) → Among (keptAmong stays (suc n)) k → Stays stays (suc n) k
+next-found : (stays : List ℕ) (n k : ℕ) → (Among (keptAmong stays n) k → Marked stays n k) → Among (keptAmong stays (suc n)) k → Marked stays (suc n) k
 next-found stays n k ih h = ⊎-elim (λ g. up (ih (rw (g .1) at h))) (λ g. stayed (g .0) (rw (g .1) at h)) (goes stays n)
   where
-    up : Stays stays n k → Stays stays (suc n) k
+    up : Marked stays n k → Marked stays (suc n) k
     up z = (omega (arith, z .0), z .1)
 
-    stayed : getD stays n 0 ≢ 0 → Among (keptAmong stays n ++ (n ∷ [])) k → Stays stays (suc n) k
+    stayed : getD stays n 0 ≢ 0 → Among (keptAmong stays n ++ (n ∷ [])) k → Marked stays (suc n) k
     stayed byte f =
         let all = length-append (keptAmong stays n) (n ∷ []) in
         ⊎-elim
@@ -136,12 +136,11 @@ next-found stays n k ih h = ⊎-elim (λ g. up (ih (rw (g .1) at h))) (λ g. sta
         (λ l. up (ih (f .0, l, sym (List·getD-append (keptAmong stays n) (n ∷ []) 0 (f .0) l) ∙ f .2)))
         (eq-or-lt-of-le (omega (arith, all, f .1)))
 
-found : (stays : List ℕ) (n k : ℕ) → Among (keptAmong stays n) k → Stays stays n k
+found : (stays : List ℕ) (n k : ℕ) → Among (keptAmong stays n) k → Marked stays n k
 found stays zero k h = absurd (omega (arith, h .1, kept-few stays 0))
 found stays (suc n) k h = next-found stays n k (found stays n k) h
 
-pub kept-exactly : (stays : List ℕ) (k : ℕ)
-    → ((i : ℕ) × (i < length (kept stays)) × (pairOf (kept stays) i ≡ k)) ↔ ((k < length stays) × (getD stays k 0 ≢ 0))
+pub kept-exactly : (stays : List ℕ) (k : ℕ) → Among (kept stays) k ↔ Marked stays (length stays) k
 kept-exactly stays k =
     let n = length stays in
     (found stays n k, (λ h. (length (keptAmong stays k), kept-room stays n k (h .0) (h .1), kept-pair stays n k (h .0) (h .1))))

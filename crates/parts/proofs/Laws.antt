@@ -2,7 +2,7 @@
 -- after the last raises each by two at most. Said of any answers of `least_at` and `best_of`, by their promises.
 use mathlib.Core.Path.{_≡_}
 use mathlib.Core.List.{List}
-use Prim.Native.Nat.{ℕ, zero, suc, _+_, _≤_, _<_}
+use Prim.Native.Nat.{ℕ, suc, _≤_, _<_}
 use native.Mathlib.Decide.{decLt}
 use native.Mathlib.Omega.{arith}
 use lib.ListN.{length}
@@ -14,13 +14,12 @@ use Rattle.wiring.specs.Part.{Choice, partOf, longer}
 use Rattle.wiring.proofs.Serves.{rule-above, rule-most, rule-next, rule-up}
 use Rattle.wiring.proofs.Parts.{dropped-wiring, shorter-wiring, added-wiring}
 use Rattle.jumper.specs.Rows.{AcceptedRows}
-use Rattle.jumper.specs.Asked.{AcceptedShift}
 use Rattle.fit.specs.Least.{leastNumbers, LeastAnswer}
 use Rattle.fit.specs.declared.least.Least.{Least}
-use Rattle.best.specs.Best.{bestNumbers, BestAnswer}
+use Rattle.best.specs.Best.{bestNumbers, ladderOf, BestAnswer}
 use Rattle.best.specs.declared.plan.Best.{Best}
 use Rattle.parts.specs.Grows.{Grows}
-use Rattle.parts.proofs.Left.{left-rows}
+use Rattle.parts.proofs.Remains.{part-rows, part-shift, shorter-rows}
 
 -- A LEAST SEPARATION, of which no smaller one has what it has
 not-above : (Has : ℕ → Type 0) (m n : ℕ) → ((t : ℕ) → t < m → Has t → ⊥) → Has n → m ≤ n
@@ -33,63 +32,72 @@ not-above Has m n least there = go (decLt n m)
 grows : (before after : ℕ) → before ≤ after → after ≤ suc (suc (ruleAt before)) → Grows before after
 grows before after low high =
     record {
-      lower = low;
+      noFall = low;
       two = omega (arith, rule-most before);
       inside = omega (arith, rule-up after (suc (suc (ruleAt before))) high, rule-next (suc (ruleAt before)));
       one = λ h. omega (arith, rule-above before h);
     }
 
 -- at a best separation some offset has a wiring: the lowest that is named
-best-there : {a b : List ℤ} {before after : List ℕ} {r : Best} → BestAnswer a b before after r → bestNumbers r .refusal ≡ 0
-    → (d : ℤ) × HasWiring a b (bestNumbers r .separation) d
+abbrev Somewhere : (a b : List ℤ) (s : ℕ) → Type 0
+Somewhere a b s = (d : ℤ) × HasWiring a b s d
+
+best-there : {a b : List ℤ} {before after : List ℕ} {r : Best} → BestAnswer a b before after r → bestNumbers r .refusal ≡ 0 → Somewhere a b (bestNumbers r .separation)
 best-there {r = r} p z = (bestNumbers r .lowest, p .exactly z (bestNumbers r .lowest) .1 (record { low = omega arithℤ; high = p .some z }))
 
--- PAIRS DROPPED
-module _ {a b : List ℤ} {kept : List ℕ} (c : Choice (length a) kept) (some : 1 ≤ length kept) where
-  -- an accepted question about the rows is an accepted question about the rows left
-  pub least-asked : {d : ℤ} → AcceptedShift a b d → AcceptedShift (partOf kept a) (partOf kept b) d
-  least-asked k = record { rows = left-rows (k .rows) c some; offset = k .offset }
+-- and no smaller one is the separation of any
+best-under : {a b : List ℤ} {before after : List ℕ} {r : Best} (s : ℕ) → BestAnswer a b before after r → bestNumbers r .refusal ≡ 0
+    → Somewhere a b s → bestNumbers r .separation ≤ s
+best-under {a} {b} s p z = not-above (Somewhere a b) _ s (λ t h w. p .none z t h (w .0) (w .1))
 
+-- PAIRS DROPPED: the question about what remains is accepted too, and its answer isn't greater
+module _ {a b : List ℤ} {kept : List ℕ} (c : Choice (length a) kept) (some : 1 ≤ length kept) where
   pub least-dropped : {d : ℤ} {r r′ : Least} → LeastAnswer a b d r → LeastAnswer (partOf kept a) (partOf kept b) d r′ → leastNumbers r .refusal ≡ 0
       → (leastNumbers r′ .refusal ≡ 0) × (leastNumbers r′ .separation ≤ leastNumbers r .separation)
-  least-dropped {d} {r} {r′} p q z =
-      let z′ = q .accepts .1 (least-asked (p .accepts .0 z)) in
+  least-dropped {d} p q z =
+      let z′ = q .accepts .1 (part-shift c some (p .accepts .0 z)) in
       (z′, not-above (λ t. HasWiring (partOf kept a) (partOf kept b) t d) _ _ (q .least z′) (dropped-wiring a b c _ d (p .fits z)))
 
-  -- the ladder is written where there is room for it, so both answers must not be BUFFER
+  -- if there is room for its ladder
   pub best-dropped : {before after before′ after′ : List ℕ} {r r′ : Best}
       → BestAnswer a b before after r → BestAnswer (partOf kept a) (partOf kept b) before′ after′ r′
-      → bestNumbers r .refusal ≡ 0 → bestNumbers r′ .refusal ≡ 0 → bestNumbers r′ .separation ≤ bestNumbers r .separation
-  best-dropped p q z z′ =
+      → bestNumbers r .refusal ≡ 0 → length (ladderOf (partOf kept a) (partOf kept b)) ≤ length before′
+      → (bestNumbers r′ .refusal ≡ 0) × (bestNumbers r′ .separation ≤ bestNumbers r .separation)
+  best-dropped p q z room =
+      let z′ = q .accepts .1 (part-rows (p .accepts .0 z .0) c some, room) in
       let there = best-there p z in
-      let still = dropped-wiring a b c _ (there .0) (there .1) in
-      not-above (λ t. (d : ℤ) × HasWiring (partOf kept a) (partOf kept b) t d) _ _ (λ t h w. q .none z′ t h (w .0) (w .1)) (there .0, still)
+      (z′, best-under _ q z′ (there .0, dropped-wiring a b c _ (there .0) (there .1)))
 
--- A PAIR ADDED AFTER THE LAST, at column x below and y above
-module _ (a b : List ℤ) (x y : ℤ) where
-  module _ (r : AcceptedRows a b) (l : AcceptedRows (longer a x) (longer b y)) where
+-- A PAIR ADDED AFTER THE LAST, at column x below and y above: the question about the rows before it is accepted too, if they had a pair
+module _ (a b : List ℤ) (x y : ℤ) (some : 1 ≤ length a) where
+  module _ (l : AcceptedRows (longer a x) (longer b y)) where
+    rows : AcceptedRows a b
+    rows = shorter-rows a b x y l some
+
     more : (s : ℕ) (d : ℤ) → HasWiring a b s d → HasWiring (longer a x) (longer b y) (suc (suc (ruleAt s))) d
-    more s d = added-wiring a b x y (r .equal) (l .bottom .rising) (rw (← l .equal) at (l .top .rising)) s d
+    more s d = added-wiring a b x y (rows .equal) (l .bottom .rising) (rw (← l .equal) at (l .top .rising)) s d
 
     fewer : (s : ℕ) (d : ℤ) → HasWiring (longer a x) (longer b y) s d → HasWiring a b s d
-    fewer s d = shorter-wiring a b x y (r .equal) s d
+    fewer s d = shorter-wiring a b x y (rows .equal) s d
 
-  pub least-added : {d : ℤ} {p q : Least} → LeastAnswer a b d p → LeastAnswer (longer a x) (longer b y) d q
-      → leastNumbers p .refusal ≡ 0 → leastNumbers q .refusal ≡ 0 → Grows (leastNumbers p .separation) (leastNumbers q .separation)
-  least-added {d} f g z z′ =
-      let r = f .accepts .0 z .rows in
-      let l = g .accepts .0 z′ .rows in
-      grows _ _
-      (not-above (λ t. HasWiring a b t d) _ _ (f .least z) (fewer r l _ d (g .fits z′)))
-      (not-above (λ t. HasWiring (longer a x) (longer b y) t d) _ _ (g .least z′) (more r l _ d (f .fits z)))
+  pub least-added : {d : ℤ} {p q : Least} → LeastAnswer a b d p → LeastAnswer (longer a x) (longer b y) d q → leastNumbers q .refusal ≡ 0
+      → (leastNumbers p .refusal ≡ 0) × Grows (leastNumbers p .separation) (leastNumbers q .separation)
+  least-added {d} f g z′ =
+      let l = g .accepts .0 z′ in
+      let z = f .accepts .1 (record { rows = rows (l .rows); offset = l .offset }) in (
+        z,
+        grows _ _
+            (not-above (λ t. HasWiring a b t d) _ _ (f .least z) (fewer (l .rows) _ d (g .fits z′)))
+            (not-above (λ t. HasWiring (longer a x) (longer b y) t d) _ _ (g .least z′) (more (l .rows) _ d (f .fits z))),
+      )
 
+  -- if there is room for their ladder
   pub best-added : {before after before′ after′ : List ℕ} {p q : Best} → BestAnswer a b before after p → BestAnswer (longer a x) (longer b y) before′ after′ q
-      → bestNumbers p .refusal ≡ 0 → bestNumbers q .refusal ≡ 0 → Grows (bestNumbers p .separation) (bestNumbers q .separation)
-  best-added f g z z′ =
-      let r = f .accepts .0 z .0 in
+      → bestNumbers q .refusal ≡ 0 → length (ladderOf a b) ≤ length before
+      → (bestNumbers p .refusal ≡ 0) × Grows (bestNumbers p .separation) (bestNumbers q .separation)
+  best-added f g z′ room =
       let l = g .accepts .0 z′ .0 in
+      let z = f .accepts .1 (rows l, room) in
       let old = best-there f z in
       let new = best-there g z′ in
-      grows _ _
-      (not-above (λ t. (d : ℤ) × HasWiring a b t d) _ _ (λ t h w. f .none z t h (w .0) (w .1)) (new .0, fewer r l _ (new .0) (new .1)))
-      (not-above (λ t. (d : ℤ) × HasWiring (longer a x) (longer b y) t d) _ _ (λ t h w. g .none z′ t h (w .0) (w .1)) (old .0, more r l _ (old .0) (old .1)))
+      (z, grows _ _ (best-under _ f z (new .0, fewer l _ (new .0) (new .1))) (best-under _ g z′ (old .0, more l _ (old .0) (old .1))))

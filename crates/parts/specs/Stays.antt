@@ -1,7 +1,8 @@
 -- WHICH PAIRS STAY, and which questions about a part we accept (02, #113). A lent row of bytes says it: "one a pair, 0 dropped, anything else kept".
+-- In this crate a quote is of the issue that orders the request's calls, if no paper is named with it: 02 names none.
 --
--- Worked: the bytes 1,0,7,1 keep pairs 0, 2 and 3. J = rows 0,1,4,5 and 1,2,3,4 is then left with rows 0,4,5 and 1,3,4. Three bytes for J are UNEQUAL; four
--- bytes 0 are EMPTY, also where a column of J is out of range; and that is COLUMN also where its pair is dropped.
+-- Worked: the bytes 1,0,7,1 keep pairs 0, 2 and 3 of J = rows 0,1,4,5 and 1,2,3,4: rows 0,4,5 and 1,3,4 remain. Three bytes for J are UNEQUAL, four bytes 0
+-- EMPTY. Were a column of J out of range, four bytes 0 would still be EMPTY, and any others COLUMN, even if that column's pair is dropped.
 use mathlib.Core.Bool.{cond}
 use mathlib.Core.Path.{_≡_}
 use mathlib.Core.List.{List, [], _∷_, _++_}
@@ -27,14 +28,18 @@ keptAmong stays (suc n) = cond (eqb (getD stays n 0) 0) (keptAmong stays n) (kep
 abbrev pub kept : List ℕ → List ℕ
 kept stays = keptAmong stays (length stays)
 
--- a row with only the pads that stay, and a table of columns with only their wires
-abbrev pub rowLeft : (stays : List ℕ) → List ℤ → List ℤ
-rowLeft stays a = partOf (kept stays) a
+-- a row with only the pads that stay
+abbrev pub rowKept : (stays : List ℕ) → List ℤ → List ℤ
+rowKept stays a = partOf (kept stays) a
 
-abbrev pub wiresLeft : (stays : List ℕ) (s : ℕ) (table : List ℤ) → List ℤ
-wiresLeft stays s table = wires (λ i. columnIn table s (pairOf (kept stays) i)) s (length (kept stays))
+-- the columns that wire i of the part has in a table of the whole jumper, and the table with only the wires that stay
+abbrev pub wireKept : (stays : List ℕ) (s : ℕ) (table : List ℤ) → ℕ → ℕ → ℤ
+wireKept stays s table i = columnIn table s (pairOf (kept stays) i)
 
--- "a row of bytes of another length is UNEQUAL, none kept is EMPTY"
+abbrev pub wiresKept : (stays : List ℕ) (s : ℕ) (table : List ℤ) → List ℤ
+wiresKept stays s table = wires (wireKept stays s table) s (length (kept stays))
+
+-- "a row of bytes of another length is UNEQUAL, none kept is EMPTY". Rows of two lengths are UNEQUAL before the bytes can be EMPTY
 abbrev pub staysFault : (a b : List ℤ) (stays : List ℕ) → Checked
 staysFault a b stays =
     pick (eqb (length a) (length b))

@@ -1,9 +1,9 @@
 // The route of a part out of the old route's table: no new planning.
 ghost use Rattle.parts.specs.Stays.{AskedPart};
 ghost use Rattle.parts.specs.Routed.{RoutedAnswer};
+use crate::keep::keep_wires;
 use crate::stays::check_part;
-use crate::stays::count;
-use crate::stays::keep_wires;
+use crate::stays::pairs_kept;
 use jumper::refusal::Refusal;
 use jumper::rows::Checked;
 use route::checking::check_route;
@@ -23,12 +23,12 @@ pub fn part_route(
 {
     match check_part(a, b, stays, s, d) {
         Checked::Refused(r) => Checked::Refused(r),
-        Checked::Accepted => route_left(a, b, stays, s, d, table, out),
+        Checked::Accepted => route_part(a, b, stays, s, d, table, out),
     }
 }
 
 // The part is one that we accept: what is lent, the old table, and then its wires that stay.
-fn route_left(
+fn route_part(
     a: &[i32],
     b: &[i32],
     stays: &[u8],
@@ -40,7 +40,7 @@ fn route_left(
     requires { ⌜ AskedPart (now a) (now b) (now stays) s d ⌝ }
     ensures { λ r. ⌜ RoutedAnswer (now (a .entry)) (now (b .entry)) (now (stays .entry)) s d (now (table .entry)) (now (out .entry)) (now (out .exit)) r ⌝ }
 {
-    let m = count(stays);
+    let m = pairs_kept(stays);
     if out.len() < m * (s + 1) {
         return Checked::Refused(Refusal::Buffer);
     }

@@ -1,9 +1,9 @@
 // Whether the kept record of a jumper still serves the part with some of its pads bare.
 ghost use Rattle.fit.specs.Misfit.{FitAnswer};
-ghost use Rattle.parts.specs.Stays.{rowLeft, AskedPart};
+ghost use Rattle.parts.specs.Stays.{rowKept, AskedPart};
 ghost use Rattle.parts.specs.Still.{StillAnswer};
+use crate::keep::keep_pads;
 use crate::stays::check_part;
-use crate::stays::keep_pads;
 use fit::misfit::fit;
 use jumper::limits::MAX_PAIRS;
 use jumper::rows::Checked;
@@ -14,14 +14,14 @@ pub fn still_fits(a: &[i32], b: &[i32], stays: &[u8], s: usize, d: i32) -> Check
 {
     match check_part(a, b, stays, s, d) {
         Checked::Refused(r) => Checked::Refused(r),
-        Checked::Accepted => fit_left(a, b, stays, s, d),
+        Checked::Accepted => fit_part(a, b, stays, s, d),
     }
 }
 
 // The pads that stay, written side by side into memory of our own, are rows like any others.
-fn fit_left(a: &[i32], b: &[i32], stays: &[u8], s: usize, d: i32) -> Checked
+fn fit_part(a: &[i32], b: &[i32], stays: &[u8], s: usize, d: i32) -> Checked
     requires { ⌜ AskedPart (now a) (now b) (now stays) s d ⌝ }
-    ensures { λ r. ⌜ FitAnswer (rowLeft (now (stays .entry)) (now (a .entry))) (rowLeft (now (stays .entry)) (now (b .entry))) s d r ⌝ }
+    ensures { λ r. ⌜ FitAnswer (rowKept (now (stays .entry)) (now (a .entry))) (rowKept (now (stays .entry)) (now (b .entry))) s d r ⌝ }
 {
     let mut bottom = [0i32; MAX_PAIRS];
     let mut top = [0i32; MAX_PAIRS];

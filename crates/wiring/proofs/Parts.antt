@@ -23,7 +23,7 @@ wires-left m n s k inside rises bottom top l =
     }
 
 -- a choice rises over more than one place too
-pub choice-less : {n : ℕ} {kept : List ℕ} → Choice n kept → (i j : ℕ) → i < j → j < length kept → pairOf kept i < pairOf kept j
+choice-less : {n : ℕ} {kept : List ℕ} → Choice n kept → (i j : ℕ) → i < j → j < length kept → pairOf kept i < pairOf kept j
 choice-less {n} {kept} c i j h l = go (j - suc i) j l (omega arith)
   where
     go : (m j : ℕ) → j < length kept → suc i + m ≡ j → pairOf kept i < pairOf kept j
@@ -53,7 +53,7 @@ pub dropped-wiring : (a b : List ℤ) {kept : List ℕ} → Choice (length a) ke
     → HasWiring a b s d → HasWiring (partOf kept a) (partOf kept b) s d
 dropped-wiring a b c s d w = (_, dropped-legal a b c s d (w .1))
 
--- A PAIR ADDED AFTER THE LAST. The ends that pair i sets at s + 1 lie within those that it sets at s, and pad i + s is an old one
+-- A PAIR ADDED AFTER THE LAST. The ends that pair i sets at s + 1 leave no less between them than those that it sets at s, and pads i and i + s are old ones
 pub rule-added : {n s : ℕ} {x y : ℕ → ℤ} {d : ℤ} → Steady (suc n) x → Steady (suc n) y → Fits n s x y d → Fits (suc n) (suc s) x y d
 rule-added {n} {s} sx sy f =
     record {
@@ -65,7 +65,7 @@ fewer : {n : ℕ} {a : ℕ → ℤ} → Rising (suc n) a → Rising n a
 fewer r i h = r i (omega arith)
 
 -- so a jumper that fits at s fits, with the pair added, where the rule is read one further on: at s + 1, or at 2 if s is 0
-pub wirable-added : (n s : ℕ) (a b : ℕ → ℤ) (d : ℤ) → Rising (suc n) a → Rising (suc n) b
+wirable-added : (n s : ℕ) (a b : ℕ → ℤ) (d : ℤ) → Rising (suc n) a → Rising (suc n) b
     → Wirable n s a (shifted b d) → Wirable (suc n) (suc (suc (ruleAt s))) a (shifted b d)
 wirable-added n s a b d ra rb w =
     let f = fit-exactly n s a b d (fewer ra) (fewer rb) .0 w in
@@ -73,7 +73,7 @@ wirable-added n s a b d ra rb w =
 
 -- THE SAME OF ROWS, a and b, which with the pads x and y after their last are accepted or at least rise
 module _ (a b : List ℤ) (x y : ℤ) (e : length a ≡ length b) where
-  pub longer-length : length (longer a x) ≡ suc (length a)
+  longer-length : length (longer a x) ≡ suc (length a)
   longer-length = omega (arith, length-append a (x ∷ []))
 
   bottom : (i : ℕ) → i < length a → pad (longer a x) i ≡ pad a i

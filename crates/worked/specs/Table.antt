@@ -16,7 +16,7 @@ use Rattle.best.specs.Best.{bestNumbers, ladderOf, bestAnswer, ladderBy}
 use Rattle.route.specs.Draw.{allDrawn, bufferAfter, allRefusal}
 use Rattle.route.specs.Check.{routeChecked}
 use Rattle.parts.specs.Still.{stillOf}
-use Rattle.parts.specs.Routed.{routedRefusal, partWritten}
+use Rattle.parts.specs.Routed.{routedRefusal, routedBuffer}
 
 pub record Jumper : Type 0 where
   pub bottom : List ℤ
@@ -102,12 +102,16 @@ ladder j before = whole (ladderBy (bestAnswer (j .bottom) (j .top) before) (ladd
 abbrev pub drawnAt : Jumper → ℕ → ℤ → (out : List ℤ) → List ℤ
 drawnAt j s d out = bufferAfter (allRefusal (j .bottom) (j .top) s d (length out)) (allDrawn (j .bottom) (j .top) s d out) out
 
--- 02, #113: whether a separation still does where only the pairs stay whose byte isn't 0, and what a buffer holds after the part's route was asked for
+-- 02, #113: whether a separation still does where only the pairs stay whose byte isn't 0; what the call for the part's route says if it is lent `room`
+-- places, and what a buffer holds after it
 abbrev pub stillAt : Jumper → (stays : List ℕ) → ℕ → ℤ → List ℤ
 stillAt j stays s d = resultOf (checkedNumbers (stillOf (j .bottom) (j .top) stays s d))
 
 abbrev pub routedAt : Jumper → (stays : List ℕ) → ℕ → ℤ → (table out : List ℤ) → List ℤ
-routedAt j stays s d table out = bufferAfter (routedRefusal (j .bottom) (j .top) stays s d table (length out)) (partWritten stays s table out) out
+routedAt j stays s d table out = routedBuffer (j .bottom) (j .top) stays s d table out
+
+abbrev pub routedSays : Jumper → (stays : List ℕ) → ℕ → ℤ → (table : List ℤ) (room : ℕ) → List ℤ
+routedSays j stays s d table room = resultOf (checkedNumbers (routedRefusal (j .bottom) (j .top) stays s d table room))
 
 -- and their answers. A least separation above 0 carries the witness at one track fewer: pair and side (1 RIGHT, 2 LEFT)
 abbrev pub least : (separation pair side : ℕ) → List ℤ
@@ -119,8 +123,8 @@ prevented i k = result 10 0 0 0 (pos 0) (pos 0) i k 0
 abbrev pub accepted : List ℤ
 accepted = result 0 0 0 0 (pos 0) (pos 0) 0 0 0
 
-abbrev pub refused : (number : ℕ) → List ℤ
-refused n = result n 0 0 0 (pos 0) (pos 0) 0 0 0
+abbrev pub refused : (number place : ℕ) → List ℤ
+refused n p = result n p 0 0 (pos 0) (pos 0) 0 0 0
 
 abbrev pub badWire : (wire track : ℕ) → List ℤ
 badWire i t = result 16 i t 0 (pos 0) (pos 0) 0 0 0
@@ -134,9 +138,12 @@ noOffset l h = result 11 l h 0 (pos 0) (pos 0) 0 0 0
 abbrev pub found : (separation : ℕ) (lowest highest : ℤ) (count : ℕ) → List ℤ
 found s l h c = result 0 0 0 s l h 0 0 c
 
--- J's route at (3, 0), which is drawn, and of which a part's is made
+-- J's route at (3, 0), drawn below, and the old route of a part; and the same with a step aside of wire 1 on track 0
 abbrev pub routeOfJ : List ℤ
 routeOfJ = whole (0 ∷ 0 ∷ 0 ∷ 1 ∷ 1 ∷ 1 ∷ 2 ∷ 2 ∷ 4 ∷ 4 ∷ 3 ∷ 3 ∷ 5 ∷ 5 ∷ 5 ∷ 4 ∷ [])
+
+abbrev pub faultyRoute : List ℤ
+faultyRoute = whole (0 ∷ 0 ∷ 0 ∷ 1 ∷ 1 ∷ 2 ∷ 2 ∷ 2 ∷ 4 ∷ 4 ∷ 3 ∷ 3 ∷ 5 ∷ 5 ∷ 5 ∷ 4 ∷ [])
 
 abbrev pub table : List Case
 table =
@@ -193,10 +200,15 @@ table =
     ∷ case (stillAt J (1 ∷ 0 ∷ 7 ∷ 1 ∷ []) 2 (pos 0)) (prevented 1 2)
     ∷ case (stillAt J (1 ∷ 0 ∷ 7 ∷ 1 ∷ []) 2 (pos 1)) accepted
     ∷ case (fitAt J 2 (pos 1)) (prevented 0 1)
-    -- a byte too few: UNEQUAL; none stays: EMPTY
-    ∷ case (stillAt J (1 ∷ 0 ∷ 7 ∷ []) 3 (pos 0)) (refused 1)
-    ∷ case (stillAt J (0 ∷ 0 ∷ 0 ∷ 0 ∷ []) 3 (pos 0)) (refused 2)
-    -- the part's route: J's without wire 1; a place too few, and nothing is written
+    -- a byte too few: UNEQUAL; none stays: EMPTY; columns 3, 3 below: ORDER at place 1, with that pair dropped too
+    ∷ case (stillAt J (1 ∷ 0 ∷ 7 ∷ []) 3 (pos 0)) (refused 1 0)
+    ∷ case (stillAt J (0 ∷ 0 ∷ 0 ∷ 0 ∷ []) 3 (pos 0)) (refused 2 0)
+    ∷ case (stillAt (rows (3 ∷ 3 ∷ []) (3 ∷ 4 ∷ [])) (1 ∷ 0 ∷ []) 3 (pos 0)) (refused 5 1)
+    ∷ case (stillAt (rows (3 ∷ 3 ∷ []) (3 ∷ 4 ∷ [])) (0 ∷ 0 ∷ []) 3 (pos 0)) (refused 2 0)
+    -- the part's route: J's without wire 1. A place too few: BUFFER, and nothing is written. A fault of the wire that is dropped: BADWIRE, wire 1, track 0
+    ∷ case (routedSays J (1 ∷ 0 ∷ 7 ∷ 1 ∷ []) 3 (pos 0) routeOfJ 12) accepted
+    ∷ case (routedSays J (1 ∷ 0 ∷ 7 ∷ 1 ∷ []) 3 (pos 0) routeOfJ 11) (refused 9 0)
+    ∷ case (routedSays J (1 ∷ 0 ∷ 7 ∷ 1 ∷ []) 3 (pos 0) faultyRoute 12) (badWire 1 0)
     ∷ case (routedAt J (1 ∷ 0 ∷ 7 ∷ 1 ∷ []) 3 (pos 0) routeOfJ (whole (lent 13))) (whole (0 ∷ 0 ∷ 0 ∷ 1 ∷ 4 ∷ 4 ∷ 3 ∷ 3 ∷ 5 ∷ 5 ∷ 5 ∷ 4 ∷ 9 ∷ []))
     ∷ case (routedAt J (1 ∷ 0 ∷ 7 ∷ 1 ∷ []) 3 (pos 0) routeOfJ (whole (lent 11))) (whole (lent 11))
     -- a pair added: rows 0 and 0 have best 0 and, above, least 0; P both 2; Q best 2, least 3

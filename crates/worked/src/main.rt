@@ -211,20 +211,27 @@ fn one_pair_fewer() {
     );
 }
 
+// A refusal with its pair.
+fn show_pair(name: &[u8], n: Numbers) {
+    put_refusal(name, n);
+    say(b", pair ", n.pair);
+    put(b"\n");
+}
+
 // 02, #113: S's record, 5 tracks at offset 0, still serves S with its third pair bare. 3 would do, and at 2 its first pair prevents it.
 fn third_pair_bare() {
     let a = [0i32, 1, 2, 3];
     let b = [1i32, 2, 3, 4];
     let stays = [1u8, 1, 0, 1];
-    show_witness(
+    show_pair(
         b"S with its third pair bare, at 5",
         still_fits(&a, &b, &stays, 5, 0).numbers(),
     );
-    show_witness(
+    show_pair(
         b"S with its third pair bare, at 3",
         still_fits(&a, &b, &stays, 3, 0).numbers(),
     );
-    show_witness(
+    show_pair(
         b"S with its third pair bare, at 2",
         still_fits(&a, &b, &stays, 2, 0).numbers(),
     );

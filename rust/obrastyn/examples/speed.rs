@@ -29,7 +29,8 @@ fn rule(n: usize, tight: bool) {
     };
     row(&name("best", ""), ladders(baseline::best_with_ladder));
     row(&name("best", ", against copies"), ladders(baseline::best_by_copies));
-    for (how, stays) in [(", one in eight bare", bare(n, |i| i % 8 == 3)), (", any bare", bare(n, |i| i * i * 2654435761 >> 7 & 1 == 0))] {
+    // half of them in no order that the processor could guess: the bits of a multiplicative hash
+    for (how, stays) in [(", an eighth bare", stay_but(n, |i| i % 8 == 3)), (", half bare", stay_but(n, |i| i * i * 2654435761 >> 7 & 1 == 0))] {
         let z = &stays[..];
         let part = race(
             || obrastyn::still_fits(black_box(x), black_box(y), black_box(z), least, 0),
@@ -39,8 +40,8 @@ fn rule(n: usize, tight: bool) {
     }
 }
 
-/// Which pairs of a part stay.
-fn bare(n: usize, bare: fn(usize) -> bool) -> Vec<u8> {
+/// The bytes of a part of n pairs: which stay, all but those that are bare.
+fn stay_but(n: usize, bare: fn(usize) -> bool) -> Vec<u8> {
     (0..n).map(|i| u8::from(!bare(i))).collect()
 }
 
@@ -69,7 +70,7 @@ fn route(n: usize, s: usize) {
     assert_eq!(one, other);
     let checked = race(|| obrastyn::check(black_box(x), black_box(y), s, 0, &ours), || baseline::check(black_box(x), black_box(y), s, 0, &plain));
     row(&name("check"), checked);
-    let stays = bare(n, |i| i % 8 == 3);
+    let stays = stay_but(n, |i| i % 8 == 3);
     let places = stays.iter().filter(|&&byte| byte != 0).count() * (s + 1);
     let (mut left, mut other) = (vec![0i32; places], vec![0i32; places]);
     let routed = race(

@@ -119,7 +119,6 @@ mod raw {
         pub fn obrastyn_draw_all(a: *const i32, an: usize, b: *const i32, bn: usize, s: usize, d: i32, out: *mut i32, room: usize) -> Numbers;
         pub fn obrastyn_check(a: *const i32, an: usize, b: *const i32, bn: usize, s: usize, d: i32, table: *const i32, room: usize) -> Numbers;
         pub fn obrastyn_still_fits(a: *const i32, an: usize, b: *const i32, bn: usize, stays: *const u8, sn: usize, s: usize, d: i32) -> Numbers;
-        #[rustfmt::skip]
         pub fn obrastyn_part_route(
             a: *const i32, an: usize, b: *const i32, bn: usize, stays: *const u8, sn: usize, s: usize, d: i32,
             table: *const i32, places: usize, out: *mut i32, room: usize,
@@ -183,9 +182,9 @@ pub fn check(a: &[i32], b: &[i32], s: usize, d: i32, table: &[i32]) -> Numbers {
     unsafe { raw::obrastyn_check(a.as_ptr(), a.len(), b.as_ptr(), b.len(), s, d, table.as_ptr(), table.len()) }
 }
 
-/// Whether the kept record of a jumper, separation `s` at offset `d`, still serves the part in which only some pairs stay and the other pads are left bare.
-/// `stays` has a byte for each pair: 0 for one that is dropped, anything else for one that stays. No refusal exactly when what remains has a legal wiring there;
-/// where the whole jumper has one, it does.
+/// Whether the kept record of a jumper, separation `s` at offset `d`, still serves the part in which only some pairs stay and the other pads are left
+/// bare. `stays` has a byte for each pair: 0 for one that is dropped, anything else for one that stays. No refusal exactly when what remains has a legal
+/// wiring there; where the whole jumper has one, it does.
 ///
 /// UNEQUAL if `stays` isn't as long as the rows, EMPTY if no pair stays; 3 to 7 are of the whole rows, with places counted there. Then NOFIT, its witness
 /// counted among the pairs that stay.
@@ -206,9 +205,9 @@ pub fn still_fits(a: &[i32], b: &[i32], stays: &[u8], s: usize, d: i32) -> Numbe
     unsafe { raw::obrastyn_still_fits(a.as_ptr(), a.len(), b.as_ptr(), b.len(), stays.as_ptr(), stays.len(), s, d) }
 }
 
-/// The route of such a part out of the old route's table: the wires that stay, one after the other, into the first (pairs that stay)(s + 1) places of `out`. It
-/// is a legal route of the part, though not always the one that [`draw_all`] would draw for it. Refusals 1 to 7 as for [`still_fits`]; BUFFER if `table` has
-/// fewer than n(s + 1) places or `out` too few for the part; BADWIRE as [`check`] says of the old table, with the wire's number there.
+/// The route of such a part out of the old route's table: the wires that stay, one after the other, into the first (pairs that stay)(s + 1) places of
+/// `out`. It is a legal route of the part, though not always the one that [`draw_all`] would draw for it. Refusals 1 to 7 as for [`still_fits`]; BUFFER if
+/// `table` has fewer than n(s + 1) places or `out` too few for the part; BADWIRE as [`check`] says of the old table, with the wire's number there.
 ///
 /// ```
 /// let (below, above) = ([0, 1, 4, 5], [1, 2, 3, 4]);

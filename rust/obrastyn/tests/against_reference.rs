@@ -152,6 +152,7 @@ fn larger_tables() {
 
 /// Parts of jumpers: bytes of another length, none that stays, tables that are damaged or too short, buffers that are too short.
 fn some_parts(random: &mut Random, most: usize, rounds: usize) {
+    let mut seen = [0; 17];
     for round in 0..rounds {
         let (a, b) = if random.once_in(8) { any_rows(random, most) } else { rows(random, most) };
         let stays = any_stays(random, a.len());
@@ -161,8 +162,9 @@ fn some_parts(random: &mut Random, most: usize, rounds: usize) {
             _ => (rule::least(&a, &b, d).separation + random.below(2)).saturating_sub(random.below(3)),
         };
         let what = || format!("round {round}: {a:?} {b:?} stays {stays:?} s {s} d {d}");
-        assert_eq!(obrastyn::still_fits(&a, &b, &stays, s, d), told(parts::still_fits(&a, &b, &stays, s, d), false, false), "still fits, {}", what());
-        let mut table = vec![0; (a.len() * (s + 1)).min(40_000)];
+        let still = obrastyn::still_fits(&a, &b, &stays, s, d);
+        assert_eq!(still, told(parts::still_fits(&a, &b, &stays, s, d), false, false), "still fits, {}", what());
+        let mut table = vec![0; (a.len() * (s + 1)).min(40_000) + random.below(3)];
         wires::draw_all(&a, &b, s, d, &mut table);
         if !table.is_empty() && random.once_in(3) {
             damage(random, &mut table);
@@ -177,7 +179,10 @@ fn some_parts(random: &mut Random, most: usize, rounds: usize) {
         let routed = obrastyn::part_route(&a, &b, &stays, s, d, &table, &mut ours);
         assert_eq!(routed, told(parts::part_route(&a, &b, &stays, s, d, &table, &mut theirs), true, true), "route, {} {table:?}", what());
         assert_eq!(ours, theirs, "places, {} {table:?}", what());
+        seen[usize::from(still.refusal)] += 1;
+        seen[usize::from(routed.refusal)] += 1;
     }
+    assert!([0, 1, 2, 4, 5, 6, 7, 9, 10, 16].iter().all(|&refusal| seen[refusal] > 0) || rounds < 1000, "{seen:?}");
 }
 
 #[test]

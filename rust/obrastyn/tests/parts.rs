@@ -36,20 +36,43 @@ fn served_from_the_old_record() {
     }
 }
 
-/// "an added pair raises each by at most two", and by two from 0 only.
+/// "a pair added after the last raises each .. by at most two", and by two from 0 only.
 #[test]
 fn a_pair_more() {
     let mut random = Random::new(114);
-    let mut twice = 0;
+    let mut twice = [0; 2];
     for _ in 0..2000 {
         let (a, b) = rows(&mut random, 40);
-        let mut before = 0;
+        let d = a[0] - b[0];
+        let mut before = [0; 2];
         for n in 1..=a.len() {
-            let after = obrastyn::best(&a[..n], &b[..n], &mut [0; 24]).separation;
-            assert!(before <= after && after <= before + if before == 0 { 2 } else { 1 }, "{:?} {:?}", &a[..n], &b[..n]);
-            twice += usize::from(after == before + 2);
+            let (a, b) = (&a[..n], &b[..n]);
+            let after = [obrastyn::best(a, b, &mut [0; 24]).separation, obrastyn::least(a, b, d).separation];
+            for (k, (before, after)) in before.into_iter().zip(after).enumerate() {
+                assert!(before <= after && after <= before + if before == 0 { 2 } else { 1 }, "{a:?} {b:?} {d}");
+                twice[k] += usize::from(after == before + 2);
+            }
             before = after;
         }
     }
-    assert!(twice > 0);
+    assert!(twice[0] > 0 && twice[1] > 0);
+}
+
+/// The largest table, 2,048 by 2,050 places, without every other wire: a place too few, and with one to spare.
+#[test]
+fn the_largest_table() {
+    let a: Vec<i32> = (0..2048).collect();
+    let (s, n) = (obrastyn::MOST_TRACKS, a.len());
+    let b: Vec<i32> = a.iter().map(|x| x + 9).collect();
+    let mut table = vec![0; n * (s + 1)];
+    assert_eq!(obrastyn::draw_all(&a, &b, s, 0, &mut table), Numbers::default());
+    let stays: Vec<u8> = (0..n).map(|k| [0, 255][k % 2]).collect();
+    let places = n / 2 * (s + 1);
+    let mut out = vec![-7; places + 1];
+    assert_eq!(obrastyn::part_route(&a, &b, &stays, s, 0, &table, &mut out[..places - 1]).refusal, 9);
+    assert!(out.iter().all(|&x| x == -7));
+    assert_eq!(obrastyn::part_route(&a, &b, &stays, s, 0, &table, &mut out), Numbers::default());
+    assert_eq!(out[places], -7);
+    assert!(out.chunks_exact(s + 1).zip(table.chunks_exact(s + 1).skip(1).step_by(2)).all(|(new, old)| new == old));
+    assert_eq!(obrastyn::check(&left(&a, &stays), &left(&b, &stays), s, 0, &out), Numbers::default());
 }

@@ -67,7 +67,7 @@ fn best_takes_less_than_4096_bytes() {
     });
 }
 
-/// The pads that stay are written side by side into two rows of 2,048 columns (docs/DECISIONS.md, 41); all else that the call takes is little.
+/// The pads that stay are written side by side into two rows of 2,048 columns (docs/DECISIONS.md, 42); all else that the call takes is little.
 #[test]
 fn still_fits_takes_two_rows_and_little_more() {
     in_thread(|| {
@@ -80,6 +80,24 @@ fn still_fits_takes_two_rows_and_little_more() {
             println!("still_fits, {n} pairs: {bytes} bytes");
             assert!(bytes < 2 * 2048 * 4 + 1024);
         }
+    });
+}
+
+/// The route of a part goes from the old table to the lent places.
+#[test]
+fn part_route_takes_little() {
+    in_thread(|| {
+        let (a, b) = rows(2048);
+        let stays: Vec<u8> = (0..2048).map(|k| u8::from(k % 3 != 0)).collect();
+        let s = obrastyn::least(&a, &b, 0).separation;
+        let mut table = vec![0; 2048 * (s + 1)];
+        assert_eq!(obrastyn::draw_all(&a, &b, s, 0, &mut table).refusal, 0);
+        let mut out = table.clone();
+        let bytes = taken(|| {
+            black_box(obrastyn::part_route(black_box(&a), black_box(&b), black_box(&stays), s, 0, &table, &mut out));
+        });
+        println!("part_route, 2048 pairs: {bytes} bytes");
+        assert!(bytes < 1024);
     });
 }
 

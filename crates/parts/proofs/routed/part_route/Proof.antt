@@ -27,10 +27,10 @@ enum-known-r c = search needs
 enum-told : tie.Need-enum-told
 enum-told c = search needs
 
-route-left-requires : tie.Need-route-left-requires
-route-left-requires c κs =
+route-part-requires : tie.Need-route-part-requires
+route-part-requires c κs =
     let k = c .before .before .before in
-    let start = k .before .before in
+    let start = entered k in
     rw (toZ-ofZ w32 (start .args .d) (start .fits .d)) (accepted-part _ _ _ _ _ (sym (checked k) ∙ c .before .enum-told .given .1))
 
 returns : tie.Need-returns
@@ -42,7 +42,7 @@ same-length c = search needs
 returns-2 : tie.Need-returns-2
 returns-2 c =
     let start = c .before .before .before .before .before .before .before in
-    rw (toZ-ofZ w32 (start .args .d) (start .fits .d)) at (c .before .route-left .ensures)
+    rw (toZ-ofZ w32 (start .args .d) (start .fits .d)) at (c .before .route-part .ensures)
 
 pub part-route-spec : {M : Type 1} → statement M
 part-route-spec =
@@ -51,7 +51,7 @@ part-route-spec =
     check-part-requires
     enum-known-r
     enum-told
-    route-left-requires
+    route-part-requires
     returns
     same-length
     returns-2)

@@ -6,7 +6,7 @@ use borrow.Author.Needs.{needs}
 use borrow.Author.Tests.{eq-eqb, ne-eqb}
 use lib.ListN.{length}
 use Rattle.parts.specs.Stays.{keptAmong, kept}
-use Rattle.parts.proofs.Keeping.{kept-none, count-same, kept-room}
+use Rattle.parts.proofs.Keeping.{kept-none, as-many, kept-room}
 use Rattle.parts.proofs.stays.none_stays.Statement.{statement}
 use Rattle.parts.proofs.stays.none_stays.Tie as tie
 
@@ -38,7 +38,7 @@ loop-less c = search needs
 loop-again : tie.Need-loop-again Inv-loop μ-loop
 loop-again c =
     let at-loop = c .before .before .before in
-    (omega arith, count-same (at-loop .before .args .stays .now) (at-loop .loop .passed) (c .if1 .left) ∙ at-loop .loop .inv .1)
+    (omega arith, as-many (at-loop .before .args .stays .now) (at-loop .loop .passed) (c .if1 .left) ∙ at-loop .loop .inv .1)
 
 returns-2 : tie.Need-returns-2 Inv-loop μ-loop
 returns-2 c =

@@ -2,7 +2,6 @@ use mathlib.Core.Path.{_≡_, sym, _∙_}
 use borrow.Author.Needs.{needs}
 use mir.Syntax.{w32}
 use mir.ValLaws.{toZ-ofZ}
-use Rattle.jumper.specs.declared.rows.Checked.{Checked}
 use Rattle.parts.specs.Stays.{checkPart}
 use Rattle.parts.proofs.Answers.{accepted-part, still-refused, still-found}
 use Rattle.parts.proofs.still.still_fits.Statement.{statement}
@@ -28,10 +27,10 @@ enum-known-r c = search needs
 enum-told : tie.Need-enum-told
 enum-told c = search needs
 
-fit-left-requires : tie.Need-fit-left-requires
-fit-left-requires c κs =
+fit-part-requires : tie.Need-fit-part-requires
+fit-part-requires c κs =
     let k = c .before .before in
-    let start = k .before .before in
+    let start = entered k in
     rw (toZ-ofZ w32 (start .args .d) (start .fits .d)) (accepted-part _ _ _ _ _ (sym (checked k) ∙ c .enum-told .given .1))
 
 returns : tie.Need-returns
@@ -40,11 +39,11 @@ returns c = still-refused _ _ _ _ _ _ (sym (checked (c .before .before .before))
 returns-2 : tie.Need-returns-2
 returns-2 c =
     let k = c .before .before .before in
-    let start = k .before .before in
-    let found = rw (toZ-ofZ w32 (start .args .d) (start .fits .d)) at (c .fit-left .ensures) in
+    let start = entered k in
+    let found = rw (toZ-ofZ w32 (start .args .d) (start .fits .d)) at (c .fit-part .ensures) in
     still-found _ _ _ _ _ (sym (checked k) ∙ c .before .enum-told .given .1) _ found
 
 pub still-fits-spec : {M : Type 1} → statement M
 still-fits-spec =
     tie.close
-    (tie.spec check-part-requires enum-known-r enum-told fit-left-requires returns returns-2)
+    (tie.spec check-part-requires enum-known-r enum-told fit-part-requires returns returns-2)

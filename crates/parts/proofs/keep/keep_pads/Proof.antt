@@ -6,8 +6,8 @@ use borrow.Author.Needs.{needs}
 use lib.ListN.{length}
 use Rattle.whole.proofs.Machine.{back}
 use Rattle.parts.proofs.Copies.{Filled, filled-none, filled-all, filled-room, filled-dropped, filled-stays}
-use Rattle.parts.proofs.stays.keep_pads.Statement.{statement}
-use Rattle.parts.proofs.stays.keep_pads.Tie as tie
+use Rattle.parts.proofs.keep.keep_pads.Statement.{statement}
+use Rattle.parts.proofs.keep.keep_pads.Tie as tie
 
 abbrev Inv-loop : tie.InvT-loop
 Inv-loop row stays out₀ at₀ k₀ out at k = (k ≤ length stays) × Filled stays row out₀ at k out

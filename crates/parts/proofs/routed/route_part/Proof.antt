@@ -10,11 +10,11 @@ use Rattle.jumper.specs.Limits.{maxPairs, maxTracks}
 use Rattle.jumper.specs.declared.rows.Checked.{Checked}
 use Rattle.route.specs.Check.{RouteCheck}
 use Rattle.parts.specs.Stays.{AskedPart}
-use Rattle.parts.specs.Routed.{placesLeft}
+use Rattle.parts.specs.Routed.{placesKept}
 use Rattle.parts.proofs.Keeping.{kept-few}
 use Rattle.parts.proofs.Answers.{table-lent, routed-short, routed-refused, routed-done}
-use Rattle.parts.proofs.routed.route_left.Statement.{statement}
-use Rattle.parts.proofs.routed.route_left.Tie as tie
+use Rattle.parts.proofs.routed.route_part.Statement.{statement}
+use Rattle.parts.proofs.routed.route_part.Tie as tie
 
 asked : (start : tie.Start) → AskedPart (start .args .a .now) (start .args .b .now) (start .args .stays .now) (start .args .s) (start .args .d)
 asked start = start .pre
@@ -36,11 +36,11 @@ checked k r e =
     subst (Said k) e said
 
 -- the part's wires have room
-room : (k : At) → placesLeft (entered k .args .stays .now) (entered k .args .s) ≤ length (entered k .args .out .now)
-room k = rw (k .before .before .count .ensures) at (k .before .if1 .left)
+room : (k : At) → placesKept (entered k .args .stays .now) (entered k .args .s) ≤ length (entered k .args .out .now)
+room k = rw (k .before .before .pairs-kept .ensures) at (k .before .if1 .left)
 
-count-requires : tie.Need-count-requires
-count-requires c κs = search needs
+pairs-kept-requires : tie.Need-pairs-kept-requires
+pairs-kept-requires c κs = search needs
 
 add-if1 : tie.Need-add-if1
 add-if1 c = let tracks = asked (c .before .before) .whole .tracks in search needs
@@ -50,14 +50,14 @@ mul-if1 c =
     let start = c .before .before in
     let k = asked start in
     let stays = start .args .stays .now in
-    let few : c .count .result ≤ maxPairs = omega (arith, c .count .ensures, kept-few stays (length stays), k .bytes, k .whole .rows .few) in
-    let h : c .count .result * (start .args .s + 1) ≤ maxPairs * (maxTracks + 1) = mul-le-mul {m₂ = maxTracks + 1} few (omega (arith, k .whole .tracks)) in
+    let few : c .pairs-kept .result ≤ maxPairs = omega (arith, c .pairs-kept .ensures, kept-few stays (length stays), k .bytes, k .whole .rows .few) in
+    let h : c .pairs-kept .result * (start .args .s + 1) ≤ maxPairs * (maxTracks + 1) = mul-le-mul {m₂ = maxTracks + 1} few (omega (arith, k .whole .tracks)) in
     omega arith
 
 returns : tie.Need-returns
 returns c =
     let start = c .before .before .before in
-    routed-short _ _ _ _ _ _ _ (asked start) (rw (c .before .count .ensures) at (c .if1 .taken))
+    routed-short _ _ _ _ _ _ _ (asked start) (rw (c .before .pairs-kept .ensures) at (c .if1 .taken))
 
 check-route-requires : tie.Need-check-route-requires
 check-route-requires c κs = search needs
@@ -88,11 +88,11 @@ returns-3 c =
     let k = told .before .before in
     routed-done _ _ _ _ _ _ _ (asked (entered k)) (room k) (checked k _ (told .enum-told .given .1)) _ (c .before .keep-wires .ensures)
 
-pub route-left-spec : {M : Type 1} → statement M
-route-left-spec =
+pub route-part-spec : {M : Type 1} → statement M
+route-part-spec =
     tie.close
     (tie.spec
-    count-requires
+    pairs-kept-requires
     add-if1
     mul-if1
     returns

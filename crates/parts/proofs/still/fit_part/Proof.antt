@@ -8,10 +8,10 @@ use lib.IntN.{ℤ}
 use mir.Syntax.{w32}
 use mir.ValLaws.{toZ-ofZ}
 use Rattle.fit.specs.Misfit.{FitAnswer}
-use Rattle.parts.specs.Stays.{kept, rowLeft, AskedPart}
-use Rattle.parts.proofs.Left.{row-lent, row-count, row-inside}
-use Rattle.parts.proofs.still.fit_left.Statement.{statement}
-use Rattle.parts.proofs.still.fit_left.Tie as tie
+use Rattle.parts.specs.Stays.{kept, rowKept, AskedPart}
+use Rattle.parts.proofs.Remains.{row-lent, row-number, row-inside}
+use Rattle.parts.proofs.still.fit_part.Statement.{statement}
+use Rattle.parts.proofs.still.fit_part.Tie as tie
 
 -- what is asked of the part
 asked : (start : tie.Start) → AskedPart (start .args .a .now) (start .args .b .now) (start .args .stays .now) (start .args .s) (start .args .d)
@@ -36,12 +36,12 @@ top k = k .keep-pads2 .last .1 .1 .0
 counted : (k : Written) → number k ≡ length (kept (entered k .args .stays .now))
 counted k = k .before .before .before .keep-pads .ensures .0
 
-bottom-left : (k : Written) → take (number k) (bottom k) ≡ rowLeft (entered k .args .stays .now) (entered k .args .a .now)
-bottom-left k = k .before .before .before .keep-pads .ensures .1
+bottom-row : (k : Written) → take (number k) (bottom k) ≡ rowKept (entered k .args .stays .now) (entered k .args .a .now)
+bottom-row k = k .before .before .before .keep-pads .ensures .1
 
 -- as many stay above as below
-top-left : (k : Written) → take (number k) (top k) ≡ rowLeft (entered k .args .stays .now) (entered k .args .b .now)
-top-left k =
+top-row : (k : Written) → take (number k) (top k) ≡ rowKept (entered k .args .stays .now) (entered k .args .b .now)
+top-row k =
     let same : k .keep-pads2 .result ≡ number k = k .keep-pads2 .ensures .0 ∙ sym (counted k) in
     rw same at (k .keep-pads2 .ensures .1)
 
@@ -60,16 +60,16 @@ keep-pads-requires-2 c κs =
     row-lent (asked start) (start .args .b .now) (asked start .whole .rows .equal)
 
 array-share-prefix-bottom : tie.Need-array-share-prefix-bottom
-array-share-prefix-bottom c = let k = c .before in row-inside _ (entered k .args .a .now) _ _ (counted k) (bottom-left k)
+array-share-prefix-bottom c = let k = c .before in row-inside _ (entered k .args .a .now) _ _ (counted k) (bottom-row k)
 
 slice-aggregate-below : tie.Need-slice-aggregate-below
-slice-aggregate-below c = let k = c .before .before in row-count _ (entered k .args .a .now) _ _ (counted k) (bottom-left k)
+slice-aggregate-below c = let k = c .before .before in row-number _ (entered k .args .a .now) _ _ (counted k) (bottom-row k)
 
 array-share-prefix-top : tie.Need-array-share-prefix-top
-array-share-prefix-top c = let k = c .before .before in row-inside _ (entered k .args .b .now) _ _ (counted k) (top-left k)
+array-share-prefix-top c = let k = c .before .before in row-inside _ (entered k .args .b .now) _ _ (counted k) (top-row k)
 
 slice-aggregate-above : tie.Need-slice-aggregate-above
-slice-aggregate-above c = let k = c .before .before .before in row-count _ (entered k .args .b .now) _ _ (counted k) (top-left k)
+slice-aggregate-above c = let k = c .before .before .before in row-number _ (entered k .args .b .now) _ _ (counted k) (top-row k)
 
 fit-requires : tie.Need-fit-requires
 fit-requires c κs = search needs
@@ -80,10 +80,10 @@ returns c =
     let start = entered k in
     let e = toZ-ofZ w32 (start .args .d) (start .fits .d) in
     let said : FitAnswer (take (number k) (bottom k)) (take (number k) (top k)) (start .args .s) (start .args .d) (c .fit .result) = rw e at (c .fit .ensures) in
-    rw (bottom-left k, top-left k) at said
+    rw (bottom-row k, top-row k) at said
 
-pub fit-left-spec : {M : Type 1} → statement M
-fit-left-spec =
+pub fit-part-spec : {M : Type 1} → statement M
+fit-part-spec =
     tie.close
     (tie.spec
     slice-aggregate-keep-pads

@@ -9,8 +9,8 @@ use Rattle.whole.proofs.Machine.{back}
 use Rattle.wiring.specs.Wiring.{pad}
 use Rattle.route.specs.Table.{columns}
 use Rattle.route.proofs.Places.{begun-next}
-use Rattle.parts.proofs.stays.copy.Statement.{statement}
-use Rattle.parts.proofs.stays.copy.Tie as tie
+use Rattle.parts.proofs.keep.copy.Statement.{statement}
+use Rattle.parts.proofs.keep.copy.Tie as tie
 
 abbrev Inv-loop : tie.InvT-loop
 Inv-loop table from k out₀ t₀ out t = (t ≤ k) × (length out ≡ length out₀) × (out ≡ columns (λ u. pad table (from + u)) t ++ drop t out₀)

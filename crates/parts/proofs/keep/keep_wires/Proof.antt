@@ -1,13 +1,12 @@
 -- The loop's invariant: the wires that stay of the first pairs stand in the buffer, `place` is the place after them, and `from` the next pair's in the table.
-use mathlib.Core.Path.{_≡_}
 use mathlib.Core.Logic.{⊎-elim}
 use Prim.Native.Nat.{_+_, _-_, _≤_}
 use native.Mathlib.Omega.{arith}
 use borrow.Author.Needs.{needs}
 use lib.ListN.{length}
 use Rattle.parts.proofs.Copies.{Held, held-none, held-all, held-read, held-dropped, held-room, held-part, held-stays}
-use Rattle.parts.proofs.stays.keep_wires.Statement.{statement}
-use Rattle.parts.proofs.stays.keep_wires.Tie as tie
+use Rattle.parts.proofs.keep.keep_wires.Statement.{statement}
+use Rattle.parts.proofs.keep.keep_wires.Tie as tie
 
 abbrev Inv-loop : tie.InvT-loop
 Inv-loop table s stays out₀ w from₀ place₀ pair₀ out from place pair = (pair ≤ length stays) × Held stays s table out₀ from place pair out

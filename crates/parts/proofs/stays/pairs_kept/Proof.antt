@@ -6,9 +6,9 @@ use native.Mathlib.Omega.{arith}
 use borrow.Author.Needs.{needs}
 use lib.ListN.{length}
 use Rattle.parts.specs.Stays.{keptAmong}
-use Rattle.parts.proofs.Keeping.{count-same, count-more, kept-few}
-use Rattle.parts.proofs.stays.count.Statement.{statement}
-use Rattle.parts.proofs.stays.count.Tie as tie
+use Rattle.parts.proofs.Keeping.{as-many, one-more, kept-few}
+use Rattle.parts.proofs.stays.pairs_kept.Statement.{statement}
+use Rattle.parts.proofs.stays.pairs_kept.Tie as tie
 
 abbrev Inv-loop : tie.InvT-loop
 Inv-loop stays m₀ i₀ m i = (i ≤ length stays) × (m ≡ length (keptAmong stays i))
@@ -40,8 +40,8 @@ loop-again c =
     let k = c .before .before .before in
     let stays = k .before .args .stays .now in
     ⊎-elim
-    (λ w. (omega arith, omega (arith, w .1, count-more stays (k .loop .i) (w .0 .taken))))
-    (λ w. (omega arith, omega (arith, w .1, count-same stays (k .loop .i) (w .0 .left))))
+    (λ w. (omega arith, omega (arith, w .1, one-more stays (k .loop .i) (w .0 .taken))))
+    (λ w. (omega arith, omega (arith, w .1, as-many stays (k .loop .i) (w .0 .left))))
     (c .if1 .came)
 
 returns : tie.Need-returns Inv-loop μ-loop
@@ -50,8 +50,8 @@ returns c =
     let all : k .loop .i ≡ length (k .before .args .stays .now) = omega arith in
     rw all at (k .loop .inv .1)
 
-pub count-spec : {M : Type 1} → statement M
-count-spec =
+pub pairs-kept-spec : {M : Type 1} → statement M
+pairs-kept-spec =
     tie.close
     (tie.spec
     Inv-loop
