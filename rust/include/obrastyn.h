@@ -57,9 +57,9 @@ obrastyn_numbers obrastyn_check(const int32_t *a, size_t an, const int32_t *b, s
    has one, it does. Refusal 1 if the three counts aren't equal, 2 if no pair stays, 3 to 7 of the whole rows; then 10, with `pair` and `side` as obrastyn_fit
    shows them, but counted among the pairs that stay. Takes some 17,000 bytes of stack, for the pads that stay. */
 obrastyn_numbers obrastyn_still_fits(const int32_t *a, size_t an, const int32_t *b, size_t bn, const uint8_t *stays, size_t sn, size_t s, int32_t d);
-/* The route of the part out of the old route's table: the wires that stay, one after the other, into the first (pairs that stay)(s + 1) places; those beyond are
-   untouched. `out` may not overlap `table`, the rows or the bytes. Refusals 1 to 7 as above; 9 if `table` has fewer than n(s + 1) places or `out` too few for the
-   part; 16 as obrastyn_check says of the old table, with the wire's number there. */
+/* The route of the part out of the old route's table: the wires that stay, one after the other, into the first (pairs that stay)(s + 1) places; those beyond
+   are untouched. `out` may not overlap `table`, the rows or the bytes. Refusals 1 to 7 as above; 9 if `table` has fewer than n(s + 1) places or `out` too few
+   for the part; 16 as obrastyn_check says of the old table, with the wire's number there. */
 obrastyn_numbers obrastyn_part_route(const int32_t *a, size_t an, const int32_t *b, size_t bn, const uint8_t *stays, size_t sn, size_t s, int32_t d,
                                      const int32_t *table, size_t places, int32_t *out, size_t room);
 

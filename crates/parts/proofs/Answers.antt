@@ -3,7 +3,7 @@
 use mathlib.Core.Path.{_≡_, refl, sym, _∙_}
 use mathlib.Core.Bool.{true, false}
 use mathlib.Core.List.{List}
-use mathlib.Core.Logic.{_⊎_, inl, inr, ⊎-elim, _≢_}
+use mathlib.Core.Logic.{inl, inr, ⊎-elim, _≢_}
 use Prim.Native.Nat.{ℕ, _+_, _*_, _≤_, _<_}
 use native.Mathlib.Decide.{decLt}
 use native.Mathlib.Omega.{arith}
@@ -30,7 +30,7 @@ use Rattle.route.proofs.Places.{wires-at}
 use Rattle.route.proofs.Answers.{legal-same}
 use Rattle.parts.specs.Stays.{kept, rowKept, wireKept, staysFault, checkPart, AskedPart, PartCheck}
 use Rattle.parts.specs.Still.{StillAnswer}
-use Rattle.parts.specs.Routed.{placesKept, partWritten, RoutedAnswer}
+use Rattle.parts.specs.Routed.{placesKept, partWritten, Short, RoutedAnswer}
 use Rattle.parts.proofs.Remains.{part-choice, part-asked}
 
 module _ (a b : List ℤ) (stays : List ℕ) (s : ℕ) (d : ℤ) where
@@ -174,16 +174,19 @@ module _ (a b : List ℤ) (stays : List ℕ) (s : ℕ) (d : ℤ) (table out : Li
             buffer = refl;
             refused = λ z. refl;
             routes = ((λ z. absurd (numbered r z)), (λ z. f .accepts .1 (k .whole, z .1 .0, z .2)));
-            short = ((λ z. (k, short-table z (decLt (length table) (length a * (s + 1))))), (λ z. ⊎-elim (table-short (Refused r) f) (λ h. absurd (omega arith)) (z .1)));
+            short = (
+              (λ z. (k, is-short z (decLt (length table) (length a * (s + 1))))),
+              (λ z. ⊎-elim (table-short (Refused r) f) (λ h. absurd (omega arith)) (z .1)),
+            );
             faulty = ((λ z. let q = f .refuses .0 z in (k, (q .1, room), q .2)), (λ z. f .refuses .1 (k .whole, z .1 .0, z .2)));
             fault = f .fault;
             places = λ z. absurd (numbered r z);
             legal = λ z. absurd (numbered r z);
           }
         where
-          short-table : refusalNumbers r .refusal ≡ 9 → Dec (length table < length a * (s + 1)) → (length table < length a * (s + 1)) ⊎ (length out < placesKept stays s)
-          short-table z (yes h) = inl h
-          short-table z (no h) = absurd (table-long (Refused r) f (omega arith) z)
+          is-short : refusalNumbers r .refusal ≡ 9 → Dec (length table < length a * (s + 1)) → Short a stays s table out
+          is-short z (yes h) = inl h
+          is-short z (no h) = absurd (table-long (Refused r) f (omega arith) z)
 
       -- the table was legal, so the wires that stay are a legal wiring of the part
       pub routed-done : RouteCheck a b s d table Accepted → (out′ : List ℤ) → out′ ≡ partWritten stays s table out

@@ -42,7 +42,8 @@ grows before after low high =
 abbrev Somewhere : (a b : List ℤ) (s : ℕ) → Type 0
 Somewhere a b s = (d : ℤ) × HasWiring a b s d
 
-best-there : {a b : List ℤ} {before after : List ℕ} {r : Best} → BestAnswer a b before after r → bestNumbers r .refusal ≡ 0 → Somewhere a b (bestNumbers r .separation)
+best-there : {a b : List ℤ} {before after : List ℕ} {r : Best} → BestAnswer a b before after r → bestNumbers r .refusal ≡ 0
+    → Somewhere a b (bestNumbers r .separation)
 best-there {r = r} p z = (bestNumbers r .lowest, p .exactly z (bestNumbers r .lowest) .1 (record { low = omega arithℤ; high = p .some z }))
 
 -- and no smaller one is the separation of any

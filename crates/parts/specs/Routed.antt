@@ -31,9 +31,16 @@ partWritten stays s table out = wiresKept stays s table ++ drop (placesKept stay
 abbrev pub routedBuffer : (a b : List ℤ) (stays : List ℕ) (s : ℕ) (d : ℤ) (table out : List ℤ) → List ℤ
 routedBuffer a b stays s d table out = bufferAfter (routedRefusal a b stays s d table (length out)) (partWritten stays s table out) out
 
--- all that is lent has room: the old table for the jumper's wires, the buffer for the part's
+-- all that is lent has room, the old table for the jumper's wires and the buffer for the part's; or one of them hasn't
 abbrev pub Room : (a : List ℤ) (stays : List ℕ) (s : ℕ) (table out : List ℤ) → Type 0
 Room a stays s table out = (length a * (s + 1) ≤ length table) × (placesKept stays s ≤ length out)
+
+abbrev pub Short : (a : List ℤ) (stays : List ℕ) (s : ℕ) (table out : List ℤ) → Type 0
+Short a stays s table out = (length table < length a * (s + 1)) ⊎ (length out < placesKept stays s)
+
+-- wire i and track t are the first fault of the old table
+abbrev pub FaultOf : (a b : List ℤ) (s : ℕ) (d : ℤ) (table : List ℤ) (i t : ℕ) → Type 0
+FaultOf a b s d table i t = FirstFault (length a) s (pad a) (topPad b d) (columnIn table s) i t
 
 -- What `part_route` promises of a buffer `out` and what it holds after the call, `out′`: the wires that its places mean are a legal wiring of the part, each
 -- the old wire of its pair. BADWIRE names the wire and the track of the old table's first fault. A refusal writes nothing.
@@ -42,8 +49,8 @@ pub record RoutedAnswer (a b : List ℤ) (stays : List ℕ) (s : ℕ) (d : ℤ) 
   pub buffer : out′ ≡ bufferAfter r (partWritten stays s table out) out
   pub refused : (checkedNumbers r .refusal ≡ 0 → ⊥) → out′ ≡ out
   pub routes : (checkedNumbers r .refusal ≡ 0) ↔ (AskedPart a b stays s d × Room a stays s table out × LegalRoute a b s d table)
-  pub short : (checkedNumbers r .refusal ≡ 9) ↔ (AskedPart a b stays s d × ((length table < length a * (s + 1)) ⊎ (length out < placesKept stays s)))
+  pub short : (checkedNumbers r .refusal ≡ 9) ↔ (AskedPart a b stays s d × Short a stays s table out)
   pub faulty : (checkedNumbers r .refusal ≡ 16) ↔ (AskedPart a b stays s d × Room a stays s table out × (LegalRoute a b s d table → ⊥))
-  pub fault : checkedNumbers r .refusal ≡ 16 → FirstFault (length a) s (pad a) (topPad b d) (columnIn table s) (checkedNumbers r .place) (checkedNumbers r .second)
+  pub fault : checkedNumbers r .refusal ≡ 16 → FaultOf a b s d table (checkedNumbers r .place) (checkedNumbers r .second)
   pub places : checkedNumbers r .refusal ≡ 0 → (i t : ℕ) → i < length (kept stays) → t ≤ s → columnIn out′ s i t ≡ wireKept stays s table i t
   pub legal : checkedNumbers r .refusal ≡ 0 → LegalRoute (rowKept stays a) (rowKept stays b) s d out′

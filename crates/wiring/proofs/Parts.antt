@@ -1,7 +1,7 @@
 -- THE LAWS OF A PART (02, #113): wires taken out of a legal wiring leave a legal wiring; and a pair added after the last moves the rule of fit by one at most.
 use mathlib.Core.Path.{_≡_, refl, sym, ap}
 use mathlib.Core.List.{List, [], _∷_}
-use Prim.Native.Nat.{ℕ, zero, suc, _+_, _-_, _≤_, _<_}
+use Prim.Native.Nat.{ℕ, zero, suc, _+_, _-_, _<_}
 use native.Mathlib.Omega.{arith}
 use lib.ListN.{length, length-map, length-append, List·getD-append}
 use lib.IntN.{ℤ, pos, _+ℤ_}

@@ -1,6 +1,6 @@
 -- WHAT IS LEFT OF A JUMPER with some of its pads bare (02, #113): "when any pairs are taken off, so long as one remains", and a jumper with "a pair added
--- after the last". For rows of any numbers, accepted or not. The laws: `dropped-wiring`, `shorter-wiring` and `added-wiring` of proofs/Parts.antt; that the rows
--- left of accepted rows are accepted (`part-rows`), and what follows for least and best separations (`least-dropped`, `best-dropped`, `least-added`,
+-- after the last". For rows of any numbers, accepted or not. The laws are `dropped-wiring`, `shorter-wiring` and `added-wiring` of proofs/Parts.antt. That
+-- what remains of accepted rows is accepted (`part-rows`), and what follows for least and best separations (`least-dropped`, `best-dropped`, `least-added`,
 -- `best-added`), is said in crate parts, Remains.antt and Laws.antt of its proofs/.
 --
 -- Worked: J = rows 0,1,4,5 and 1,2,3,4 without its pair 1 is rows 0,4,5 and 1,3,4: the pairs 0, 2 and 3 stay, and are pairs 0, 1 and 2 of the part.

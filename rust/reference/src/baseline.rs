@@ -575,30 +575,21 @@ pub fn part_route(
     table: &[i32],
     out: &mut [i32],
 ) -> Numbers {
-    flat(try_part_route(a, b, stays, s, d, table, out))
-}
-
-fn try_part_route(
-    a: &[i32],
-    b: &[i32],
-    stays: &[u8],
-    s: usize,
-    d: i32,
-    table: &[i32],
-    out: &mut [i32],
-) -> Result<Numbers, Numbers> {
-    let kept = check_part(a, b, stays, s, d)?;
-    let width = s + 1;
-    let Some(out) = out.get_mut(..kept * width) else {
-        return Err(Numbers::refused(BUFFER));
+    let mut write = || {
+        let kept = check_part(a, b, stays, s, d)?;
+        let width = s + 1;
+        let Some(out) = out.get_mut(..kept * width) else {
+            return Err(Numbers::refused(BUFFER));
+        };
+        check_table(a, b, s, d, table)?;
+        let wires = table.chunks_exact(width).zip(stays);
+        let wires_kept = wires.filter(|(_, &stay)| stay != 0);
+        for (place, (wire, _)) in out.chunks_exact_mut(width).zip(wires_kept) {
+            place.copy_from_slice(wire);
+        }
+        Ok(Numbers::default())
     };
-    check_table(a, b, s, d, table)?;
-    let wires = table.chunks_exact(width).zip(stays);
-    let wires_kept = wires.filter(|(_, &stay)| stay != 0);
-    for (place, (wire, _)) in out.chunks_exact_mut(width).zip(wires_kept) {
-        place.copy_from_slice(wire);
-    }
-    Ok(Numbers::default())
+    flat(write())
 }
 
 // ---------------------------------------------------------------------------------------------

@@ -63,26 +63,17 @@ pub fn part_route(
     table: &[i32],
     out: &mut [i32],
 ) -> Numbers {
-    flat(try_part_route(a, b, stays, s, d, table, out))
-}
-
-fn try_part_route(
-    a: &[i32],
-    b: &[i32],
-    stays: &[u8],
-    s: usize,
-    d: i32,
-    table: &[i32],
-    out: &mut [i32],
-) -> Result<Numbers, Numbers> {
-    check_part(a, b, stays, s, d)?;
-    if out.len() < kept(a, stays).len() * (s + 1) {
-        return Err(Numbers::refused(BUFFER));
-    }
-    // The checker says BUFFER of the table before it looks into it.
-    try_check(a, b, s, d, table)?;
-    let wires: Vec<&[i32]> = table[..a.len() * (s + 1)].chunks(s + 1).collect();
-    let part = kept(&wires, stays).concat();
-    out[..part.len()].copy_from_slice(&part);
-    Ok(Numbers::default())
+    let mut write = || {
+        check_part(a, b, stays, s, d)?;
+        if out.len() < kept(a, stays).len() * (s + 1) {
+            return Err(Numbers::refused(BUFFER));
+        }
+        // The checker says BUFFER of the table before it looks into it.
+        try_check(a, b, s, d, table)?;
+        let wires: Vec<&[i32]> = table[..a.len() * (s + 1)].chunks(s + 1).collect();
+        let part = kept(&wires, stays).concat();
+        out[..part.len()].copy_from_slice(&part);
+        Ok(Numbers::default())
+    };
+    flat(write())
 }

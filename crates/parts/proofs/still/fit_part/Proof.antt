@@ -79,7 +79,8 @@ returns c =
     let k = c .before .before .before .before in
     let start = entered k in
     let e = toZ-ofZ w32 (start .args .d) (start .fits .d) in
-    let said : FitAnswer (take (number k) (bottom k)) (take (number k) (top k)) (start .args .s) (start .args .d) (c .fit .result) = rw e at (c .fit .ensures) in
+    let m = number k in
+    let said : FitAnswer (take m (bottom k)) (take m (top k)) (start .args .s) (start .args .d) (c .fit .result) = rw e at (c .fit .ensures) in
     rw (bottom-row k, top-row k) at said
 
 pub fit-part-spec : {M : Type 1} → statement M
