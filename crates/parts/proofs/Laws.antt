@@ -21,7 +21,7 @@ use Rattle.best.specs.declared.plan.Best.{Best}
 use Rattle.parts.specs.Grows.{Grows}
 use Rattle.parts.proofs.Remains.{part-rows, part-shift, shorter-rows}
 
--- A LEAST SEPARATION, of which no smaller one has what it has
+-- what n has and nothing below m: then m is at most n
 not-above : (Has : ℕ → Type 0) (m n : ℕ) → ((t : ℕ) → t < m → Has t → ⊥) → Has n → m ≤ n
 not-above Has m n least there = go (decLt n m)
   where
@@ -38,15 +38,16 @@ grows before after low high =
       one = λ h. omega (arith, rule-above before h);
     }
 
--- at a best separation some offset has a wiring: the lowest that is named
+-- at some offset there is a wiring
 abbrev Somewhere : (a b : List ℤ) (s : ℕ) → Type 0
 Somewhere a b s = (d : ℤ) × HasWiring a b s d
 
+-- so it is at a best separation, at the lowest offset that is named
 best-there : {a b : List ℤ} {before after : List ℕ} {r : Best} → BestAnswer a b before after r → bestNumbers r .refusal ≡ 0
     → Somewhere a b (bestNumbers r .separation)
 best-there {r = r} p z = (bestNumbers r .lowest, p .exactly z (bestNumbers r .lowest) .1 (record { low = omega arithℤ; high = p .some z }))
 
--- and no smaller one is the separation of any
+-- and where it is so, the separation isn't below the best
 best-under : {a b : List ℤ} {before after : List ℕ} {r : Best} (s : ℕ) → BestAnswer a b before after r → bestNumbers r .refusal ≡ 0
     → Somewhere a b s → bestNumbers r .separation ≤ s
 best-under {a} {b} s p z = not-above (Somewhere a b) _ s (λ t h w. p .none z t h (w .0) (w .1))
