@@ -140,9 +140,14 @@ pub extern "C" fn obrastyn_part_route(
     table: &[i32],
     out: &mut [i32],
 ) -> Numbers
-    ensures answer { λ r. ⌜ r ≡ checkedNumbers (routedRefusal (now (a .entry)) (now (b .entry)) (now (stays .entry)) s d (now (table .entry)) (length (now (out .entry)))) ⌝ }
+    ensures answer { λ r. ⌜
+        r ≡ checkedNumbers (routedRefusal (now (a .entry)) (now (b .entry)) (now (stays .entry)) s d (now (table .entry)) (length (now (out .entry))))
+        ⌝ }
     ensures buffer { λ r. ⌜ now (out .exit) ≡ routedBuffer (now (a .entry)) (now (b .entry)) (now (stays .entry)) s d (now (table .entry)) (now (out .entry)) ⌝ }
-    ensures means { λ r. ⌜ InNumbers checkedNumbers (RoutedAnswer (now (a .entry)) (now (b .entry)) (now (stays .entry)) s d (now (table .entry)) (now (out .entry)) (now (out .exit))) r ⌝ }
+    ensures means { λ r. ⌜
+        InNumbers checkedNumbers
+        (RoutedAnswer (now (a .entry)) (now (b .entry)) (now (stays .entry)) s d (now (table .entry)) (now (out .entry)) (now (out .exit))) r
+        ⌝ }
 {
     parts::routed::part_route(a, b, stays, s, d, table, out).numbers()
 }

@@ -543,17 +543,10 @@ fn check_part(a: &[i32], b: &[i32], stays: &[u8], s: usize, d: i32) -> Result<us
 
 /// Whether (s, d) still fits when only some pairs stay.
 pub fn still_fits(a: &[i32], b: &[i32], stays: &[u8], s: usize, d: i32) -> Numbers {
-    flat(try_still_fits(a, b, stays, s, d))
-}
-
-fn try_still_fits(
-    a: &[i32],
-    b: &[i32],
-    stays: &[u8],
-    s: usize,
-    d: i32,
-) -> Result<Numbers, Numbers> {
-    let kept = check_part(a, b, stays, s, d)?;
+    let kept = match check_part(a, b, stays, s, d) {
+        Err(refusal) => return refusal,
+        Ok(kept) => kept,
+    };
     // Every pad is written and only those kept move the place on, so that no branch goes wrong.
     let (mut part_a, mut part_b) = ([0; MOST_PAIRS], [0; MOST_PAIRS]);
     let mut place = 0;
@@ -562,7 +555,7 @@ fn try_still_fits(
         part_b[place] = b;
         place += (stay != 0) as usize;
     }
-    check_fit(&part_a[..kept], &part_b[..kept], s, d)
+    flat(check_fit(&part_a[..kept], &part_b[..kept], s, d))
 }
 
 /// The route of the part, from the old one.

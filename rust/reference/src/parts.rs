@@ -35,19 +35,11 @@ fn check_part(a: &[i32], b: &[i32], stays: &[u8], s: usize, d: i32) -> Result<()
 /// Whether the part has a legal wiring at (s, d). Checks 1 to 7 and 10. Numbers are those of the fit
 /// call for the rows left, so NOFIT names its pair by number among these.
 pub fn still_fits(a: &[i32], b: &[i32], stays: &[u8], s: usize, d: i32) -> Numbers {
-    flat(try_still_fits(a, b, stays, s, d))
-}
-
-fn try_still_fits(
-    a: &[i32],
-    b: &[i32],
-    stays: &[u8],
-    s: usize,
-    d: i32,
-) -> Result<Numbers, Numbers> {
-    check_part(a, b, stays, s, d)?;
-    // A part of accepted rows is accepted, so this can only be NOFIT or an answer.
-    Ok(fit(&kept(a, stays), &kept(b, stays), s, d))
+    match check_part(a, b, stays, s, d) {
+        Err(refusal) => refusal,
+        // A part of accepted rows is accepted, so this can only be NOFIT or an answer.
+        Ok(()) => fit(&kept(a, stays), &kept(b, stays), s, d),
+    }
 }
 
 /// Writes the old table without the dropped wires, wire after wire, into the first (pairs kept)(s + 1)
