@@ -1,4 +1,5 @@
-// Floor 8: the calls of the product for C and Rust. A slice is a pointer and a count of elements; an answer comes back by value, as `Numbers` but for a stretch and a record.
+// Floor 8: the calls of the product for C and Rust. A slice is a pointer and a count of elements; an answer comes back by value, as `Numbers` but for a stretch
+// and a record.
 // Each promises which numbers and which buffer, at every input (`answer`, `buffer`), and all that the call it stands for promises (`means`).
 ghost use mathlib.Core.Path.{_≡_};
 ghost use lib.ListN.{length};
@@ -66,7 +67,10 @@ pub extern "C" fn obrastyn_stretch(a: &[i32], b: &[i32], s: usize, d: i32) -> Pl
 #[no_mangle]
 pub extern "C" fn obrastyn_best(a: &[i32], b: &[i32], ladder: &mut [usize]) -> Numbers
     ensures answer { λ r. ⌜ r ≡ bestNumbers (bestAnswer (now (a .entry)) (now (b .entry)) (now (ladder .entry))) ⌝ }
-    ensures buffer { λ r. ⌜ now (ladder .exit) ≡ ladderBy (bestAnswer (now (a .entry)) (now (b .entry)) (now (ladder .entry))) (ladderOf (now (a .entry)) (now (b .entry))) (now (ladder .entry)) ⌝ }
+    ensures buffer { λ r. ⌜
+        now (ladder .exit) ≡ ladderBy (bestAnswer (now (a .entry)) (now (b .entry)) (now (ladder .entry)))
+        (ladderOf (now (a .entry)) (now (b .entry))) (now (ladder .entry))
+        ⌝ }
     ensures means { λ r. ⌜ InNumbers bestNumbers (BestAnswer (now (a .entry)) (now (b .entry)) (now (ladder .entry)) (now (ladder .exit))) r ⌝ }
 {
     best::plan::best_of(a, b, ladder).numbers()
@@ -83,7 +87,10 @@ pub extern "C" fn obrastyn_draw_wire(
     out: &mut [i32],
 ) -> Numbers
     ensures answer { λ r. ⌜ r ≡ checkedNumbers (wireRefusal (now (a .entry)) (now (b .entry)) s d wire (length (now (out .entry)))) ⌝ }
-    ensures buffer { λ r. ⌜ now (out .exit) ≡ bufferAfter (wireRefusal (now (a .entry)) (now (b .entry)) s d wire (length (now (out .entry)))) (wireDrawn (now (a .entry)) (now (b .entry)) s d wire (now (out .entry))) (now (out .entry)) ⌝ }
+    ensures buffer { λ r. ⌜
+        now (out .exit) ≡ bufferAfter (wireRefusal (now (a .entry)) (now (b .entry)) s d wire (length (now (out .entry))))
+        (wireDrawn (now (a .entry)) (now (b .entry)) s d wire (now (out .entry))) (now (out .entry))
+        ⌝ }
     ensures means { λ r. ⌜ InNumbers checkedNumbers (DrawWireAnswer (now (a .entry)) (now (b .entry)) s d wire (now (out .entry)) (now (out .exit))) r ⌝ }
 {
     route::drawing::draw_wire(a, b, s, d, wire, out).numbers()
@@ -99,7 +106,10 @@ pub extern "C" fn obrastyn_draw_all(
     out: &mut [i32],
 ) -> Numbers
     ensures answer { λ r. ⌜ r ≡ checkedNumbers (allRefusal (now (a .entry)) (now (b .entry)) s d (length (now (out .entry)))) ⌝ }
-    ensures buffer { λ r. ⌜ now (out .exit) ≡ bufferAfter (allRefusal (now (a .entry)) (now (b .entry)) s d (length (now (out .entry)))) (allDrawn (now (a .entry)) (now (b .entry)) s d (now (out .entry))) (now (out .entry)) ⌝ }
+    ensures buffer { λ r. ⌜
+        now (out .exit) ≡ bufferAfter (allRefusal (now (a .entry)) (now (b .entry)) s d (length (now (out .entry))))
+        (allDrawn (now (a .entry)) (now (b .entry)) s d (now (out .entry))) (now (out .entry))
+        ⌝ }
     ensures means { λ r. ⌜ InNumbers checkedNumbers (DrawAllAnswer (now (a .entry)) (now (b .entry)) s d (now (out .entry)) (now (out .exit))) r ⌝ }
 {
     route::drawing::draw_all(a, b, s, d, out).numbers()
@@ -143,7 +153,9 @@ pub extern "C" fn obrastyn_part_route(
     ensures answer { λ r. ⌜
         r ≡ checkedNumbers (routedRefusal (now (a .entry)) (now (b .entry)) (now (stays .entry)) s d (now (table .entry)) (length (now (out .entry))))
         ⌝ }
-    ensures buffer { λ r. ⌜ now (out .exit) ≡ routedBuffer (now (a .entry)) (now (b .entry)) (now (stays .entry)) s d (now (table .entry)) (now (out .entry)) ⌝ }
+    ensures buffer { λ r. ⌜
+        now (out .exit) ≡ routedBuffer (now (a .entry)) (now (b .entry)) (now (stays .entry)) s d (now (table .entry)) (now (out .entry))
+        ⌝ }
     ensures means { λ r. ⌜
         InNumbers checkedNumbers
         (RoutedAnswer (now (a .entry)) (now (b .entry)) (now (stays .entry)) s d (now (table .entry)) (now (out .entry)) (now (out .exit))) r

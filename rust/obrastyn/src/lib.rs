@@ -61,7 +61,8 @@ pub struct Numbers {
     pub lowest: i32,
     pub highest: i32,
     /// The witness at a separation s, the least pair that prevents a wiring, and its side: 1 (RIGHT), top pad `pair` is too far right for bottom pad
-    /// `pair + s - 1`; 2 (LEFT), top pad `pair + s - 1` is too far left for bottom pad `pair`; at s = 0 both are pads `pair`. [`least`] shows it for one track fewer.
+    /// `pair + s - 1`; 2 (LEFT), top pad `pair + s - 1` is too far left for bottom pad `pair`; at s = 0 both are pads `pair`. [`least`] shows it for one track
+    /// fewer.
     pub pair: usize,
     pub side: u8,
     /// How many differences were read.

@@ -88,7 +88,8 @@ fn drawings(random: &mut Random, most: usize, rounds: usize) {
         let room = (s + 1 + random.below(4)).saturating_sub(if random.once_in(6) { 2 } else { 0 });
         let mut ours = vec![SENTINEL; room.min(5000)];
         let mut theirs = ours.clone();
-        assert_eq!(obrastyn::draw_wire(&a, &b, s, d, wire, &mut ours), told(wires::draw_wire(&a, &b, s, d, wire, &mut theirs), true, true), "draw wire {wire}, {}", what());
+        let drawn = obrastyn::draw_wire(&a, &b, s, d, wire, &mut ours);
+        assert_eq!(drawn, told(wires::draw_wire(&a, &b, s, d, wire, &mut theirs), true, true), "draw wire {wire}, {}", what());
         assert_eq!(ours, theirs, "a wire's places, {}", what());
     }
 }
