@@ -12,5 +12,5 @@ pub record Grows (before after : ℕ) : Type 0 where
   pub two : after ≤ before + 2
   -- "by at most one before #106's extra track": in the numbers at which the rule is read
   pub inside : ruleAt after ≤ ruleAt before + 1
-  -- a rise of two is from 0 only: not 02's, but what `two` and `inside` together come to
+  -- a rise of two is from 0 only: not in 02's words, but it follows from `inside`
   pub one : 0 < before → after ≤ before + 1

@@ -1,4 +1,4 @@
-//! The proved library against the reference, which was written from documents 01 and 02 alone: random rows and tables, small and at
+//! The proved library against the reference, which was written from documents 01 and 02 (docs/DECISIONS.md, 45): random rows and tables, small and at
 //! the limits, valid and damaged. Lent buffers stand between sentinels, and what lies beyond must be untouched.
 use obrastyn::{Numbers, MOST_TRACKS};
 use reference::random::{any_rows, any_stays, offset, rows, separation, Random};
@@ -152,7 +152,8 @@ fn larger_tables() {
 }
 
 /// Parts of jumpers: bytes of another length, none that stays, tables that are damaged or too short, buffers that are too short.
-fn some_parts(random: &mut Random, most: usize, rounds: usize) {
+/// Tells how often each refusal was seen.
+fn some_parts(random: &mut Random, most: usize, rounds: usize) -> [usize; 17] {
     let mut seen = [0; 17];
     for round in 0..rounds {
         let (a, b) = if random.once_in(8) { any_rows(random, most) } else { rows(random, most) };
@@ -183,22 +184,28 @@ fn some_parts(random: &mut Random, most: usize, rounds: usize) {
         seen[usize::from(still.refusal)] += 1;
         seen[usize::from(routed.refusal)] += 1;
     }
-    assert!([0, 1, 2, 4, 5, 6, 7, 9, 10, 16].iter().all(|&refusal| seen[refusal] > 0) || rounds < 1000, "{seen:?}");
+    seen
+}
+
+/// All that either call can say, but for LONG, which only the longest rows earn.
+fn all_seen(seen: [usize; 17]) {
+    assert!([0, 1, 2, 4, 5, 6, 7, 9, 10, 16].iter().all(|&refusal| seen[refusal] > 0), "{seen:?}");
 }
 
 #[test]
 fn small_parts() {
-    some_parts(&mut Random::new(9), 7, 300_000);
+    all_seen(some_parts(&mut Random::new(9), 7, 300_000));
 }
 
 #[test]
 fn larger_parts() {
-    some_parts(&mut Random::new(10), 60, 8_000);
+    all_seen(some_parts(&mut Random::new(10), 60, 8_000));
 }
 
 #[test]
 fn parts_at_the_limits() {
-    some_parts(&mut Random::new(11), 2049, 60);
+    let seen = some_parts(&mut Random::new(11), 2049, 60);
+    assert!(seen[0] > 0 && seen[10] > 0, "{seen:?}");
 }
 
 /// A form over shared pools: lines that overlap, lines with damaged starts, counts and wishes, too many lines.
