@@ -1,6 +1,7 @@
 // Floor 8: the calls of the product for C and Rust. A slice is a pointer and a count of elements; an answer comes back by value, as `Numbers` but for a stretch
 // and a record.
 // Each promises which numbers and which buffer, at every input (`answer`, `buffer`), and all that the call it stands for promises (`means`).
+#![tactic(auto)]
 ghost use Rattle.std.specs.Prelude.{◌≡◌, length};
 ghost use Rattle.jumper.specs.Rows.{checked_numbers, check_rows, RowCheck};
 ghost use Rattle.fit.specs.Misfit.{fit_of, FitAnswer};
