@@ -11,7 +11,7 @@ use lib.Dec.{eqb, ltb}
 use lib.ListN.{length}
 use lib.IntN.{ℤ, pos, nat_abs, ◌-ℤ◌}
 use lib.Signed.{◌≤ℤ◌, ◌<ℤ◌, lt_z, le_z}
-use Rattle.whole.proofs.Arith.{up, down, arithℤ}
+use Rattle.whole.proofs.Arith.{arithℤ}
 use Rattle.whole.proofs.Order.{false_lt, lt_false, false_le, le_false}
 use Rattle.whole.proofs.Machine.{abs_of}
 use Rattle.wiring.specs.Wiring.{pad}

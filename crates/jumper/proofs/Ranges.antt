@@ -3,7 +3,7 @@ use mathlib.Core.Path.{◌≡◌}
 use mathlib.Core.Bool.{true}
 use mathlib.Core.Logic.{◌↔◌, ⊎_elim}
 use lib.IntN.{ℤ}
-use Rattle.whole.proofs.Arith.{up, down, arithℤ, ≤_or_<}
+use Rattle.whole.proofs.Arith.{arithℤ, ≤_or_<}
 use Rattle.whole.proofs.Order.{true_lt, lt_true, larger_law, smaller_law}
 use Rattle.jumper.specs.Range.{Within, is_empty, meet_of}
 use Rattle.jumper.specs.declared.range.OffsetRange.{OffsetRange}

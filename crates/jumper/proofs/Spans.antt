@@ -6,7 +6,7 @@ use Prim.Native.Nat.{ℕ, ◌+◌, ◌-◌, ◌*◌, ◌≤◌, ◌<◌}
 use native.Mathlib.Omega.{arith}
 use lib.IntN.{ℤ}
 use lib.Signed.{◌≤ℤ◌, lt_z}
-use Rattle.whole.proofs.Arith.{up, down, arithℤ, dif}
+use Rattle.whole.proofs.Arith.{arithℤ, dif}
 use Rattle.whole.proofs.Extremes.{largest_law, smallest_law}
 use Rattle.wiring.specs.Fit.{Steady, low_end, high_end, Fits}
 use Rattle.jumper.specs.Range.{Within}

@@ -6,7 +6,7 @@ use Prim.Native.Nat.{ℕ, ◌+◌, ◌≤◌, ◌<◌, min}
 use native.Mathlib.Omega.{arith}
 use lib.ListN.{length}
 use lib.IntN.{ℤ, pos, ◌-ℤ◌}
-use Rattle.whole.proofs.Arith.{up, down, arithℤ, dif, sum}
+use Rattle.whole.proofs.Arith.{arithℤ, dif, sum}
 use Rattle.wiring.specs.Wiring.{HasWiring, pad}
 use Rattle.wiring.specs.Fit.{lean_of, Fits}
 use Rattle.wiring.specs.Tracks.{rule_at, tracks_for}

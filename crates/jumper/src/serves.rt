@@ -6,6 +6,7 @@ ghost use Rattle.jumper.specs.Limits.{max_tracks};
 use crate::limits::MAX_TRACKS;
 
 // The number at which the rule is read for a separation.
+#[tactic(auto, unfolding(wiring::specs::Tracks::rule_at))]
 pub fn rule_at(separation: usize) -> usize
     ensures { result ≡ rule_at separation }
 {
@@ -16,6 +17,7 @@ pub fn rule_at(separation: usize) -> usize
 }
 
 // The least separation at which the rule is read at this number, as far as separations are accepted: no number of pairs needs more.
+#[tactic(auto, using(wiring::proofs::Serves::tracks_zero, wiring::proofs::Serves::tracks_above))]
 pub fn tracks_for(number: usize) -> usize
     ensures { result ≡ min (tracks_for number) max_tracks }
 {
