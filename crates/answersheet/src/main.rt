@@ -8,7 +8,7 @@ use sheet::give::give;
 use sheet::state::{State, busy, fresh};
 
 // A state, how much of the output buffer is to be sent, and whether all went well so far.
-#[derive(Drop)]
+#[derive(Clone, Copy)]
 struct Stage {
     s: State,
     n: usize,

@@ -8,7 +8,7 @@ use crate::trial::{Trial, try_at};
 use jumper::range::OffsetRange;
 
 // The best number, how many differences were read for it, and the ends of the range there (two numbers, as in `Trial`), which is empty if it was not read.
-#[derive(Drop)]
+#[derive(Clone, Copy)]
 pub(crate) struct Level {
     pub(crate) best: usize,
     pub(crate) low: i32,

@@ -13,7 +13,7 @@ use jumper::refusal::{Numbers, Refusal};
 use jumper::rows::{Checked, check_rows};
 use jumper::serves::tracks_for;
 
-#[derive(Drop)]
+#[derive(Clone, Copy)]
 pub struct Planned {
     pub separation: usize,
     // The offsets at which a legal wiring exists there.
@@ -22,7 +22,7 @@ pub struct Planned {
     pub count: usize,
 }
 
-#[derive(Drop)]
+#[derive(Clone, Copy)]
 pub enum Best {
     Found(Planned),
     Refused(Refusal),

@@ -7,7 +7,7 @@ use jumper::range::OffsetRange;
 
 // What a trial came to. The ends are two numbers here and not one range: the processor waits for what is written in two parts and at once
 // copied whole.
-#[derive(Drop)]
+#[derive(Clone, Copy)]
 pub(crate) struct Trial {
     pub(crate) low: i32,
     pub(crate) high: i32,

@@ -13,7 +13,7 @@ pub(crate) const SKIPPING: u8 = 2;
 
 // Phase 0 is ready, 1 inside a line, any other number skipping. Inside a line: its header, and how many columns of each row are in the lent rows.
 // The line numbers that good headers had are bits of `seen`.
-#[derive(Drop)]
+#[derive(Clone, Copy)]
 pub struct Machine {
     pub phase: u8,
     pub order: Order,

@@ -17,7 +17,7 @@ use jumper::refusal::Refusal;
 const NO_LINE: u8 = 255;
 
 // What a frame did. The rows of the open line, or of the complete one, are the first columns of the lent rows.
-#[derive(Drop)]
+#[derive(Clone, Copy)]
 pub enum Did {
     Opened,
     Filled,
@@ -27,7 +27,7 @@ pub enum Did {
 }
 
 // The machine after a frame, and what the frame did; if `cut`, it was a header that cut off the line `former` first.
-#[derive(Drop)]
+#[derive(Clone, Copy)]
 pub struct Step {
     pub machine: Machine,
     pub cut: bool,

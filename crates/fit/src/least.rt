@@ -9,7 +9,7 @@ use jumper::refusal::{Numbers, Refusal, Side, carrying};
 use jumper::rows::Checked;
 use jumper::serves::tracks_for;
 
-#[derive(Drop)]
+#[derive(Clone, Copy)]
 pub enum Least {
     // Separation 0: every top pad stands straight above its bottom pad.
     Straight,

@@ -11,7 +11,7 @@ use jumper::rows::Checked;
 use jumper::serves::rule_at;
 
 // The least pair that breaks the rule of fit, and on which side.
-#[derive(Drop)]
+#[derive(Clone, Copy)]
 pub enum Misfit {
     None,
     At(usize, Side),

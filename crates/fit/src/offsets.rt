@@ -12,7 +12,7 @@ use jumper::rows::Checked;
 use jumper::serves::rule_at;
 use whole::{larger, smaller};
 
-#[derive(Drop)]
+#[derive(Clone, Copy)]
 pub enum Offsets {
     Range(OffsetRange),
     Refused(Refusal),

@@ -46,7 +46,7 @@ fn narrower_of<'a>(a: &'a [i32], b: &'a [i32], i: usize, s: usize) -> &'a [i32]
 
 // Where the stretch at fault lies, for callers that can't be handed a part of a row: row 0 is the bottom row, 1 the top row.
 #[repr(C)]
-#[derive(Drop)]
+#[derive(Clone, Copy)]
 pub struct Place {
     pub row: u8,
     pub start: usize,

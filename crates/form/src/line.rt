@@ -8,7 +8,7 @@ use plan::wish::wish_of;
 
 // What a line orders. Only `answer` reads its fields.
 #[repr(C)]
-#[derive(Drop)]
+#[derive(Clone, Copy)]
 pub struct Order {
     // Where the line's pads start in each pool, and how many pairs they are.
     pub bottom: usize,
@@ -20,7 +20,7 @@ pub struct Order {
 }
 
 #[repr(C)]
-#[derive(Drop)]
+#[derive(Clone, Copy)]
 pub struct Line {
     pub order: Order,
     pub answer: Numbers,

@@ -7,7 +7,7 @@ use crate::hex::decode;
 use crate::number::signed;
 
 // What a header orders: how many pairs on which line, at which separation (65,535: the least) and offset (the lowest i32: the best).
-#[derive(Drop)]
+#[derive(Clone, Copy)]
 pub struct Order {
     pub line: u8,
     pub pairs: usize,
@@ -16,7 +16,7 @@ pub struct Order {
 }
 
 // What a line says. Of a frame of columns: its line number, and how many columns there are.
-#[derive(Drop)]
+#[derive(Clone, Copy)]
 pub enum Said {
     Bad,
     Header(Order),
@@ -90,7 +90,7 @@ fn header(text: &[u8]) -> Said
     Said::Bad
 }
 
-#[derive(Drop)]
+#[derive(Clone, Copy)]
 struct Filling {
     good: bool,
     line: u8,

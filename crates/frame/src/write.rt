@@ -8,7 +8,7 @@ use crate::number::bits;
 use std::num;
 
 // The numbers of a frame 20.
-#[derive(Drop)]
+#[derive(Clone, Copy)]
 pub struct Answer {
     pub line: u8,
     pub refusal: u8,
@@ -20,7 +20,7 @@ pub struct Answer {
 }
 
 // The numbers of a frame 21: on this track the wire runs from one column to another.
-#[derive(Drop)]
+#[derive(Clone, Copy)]
 pub struct Move {
     pub line: u8,
     pub wire: usize,
@@ -30,7 +30,7 @@ pub struct Move {
 }
 
 // A frame's bytes but the sum's: the first `n` of `bytes`. The longest frame, 20, has 16.
-#[derive(Drop)]
+#[derive(Clone, Copy)]
 struct Fields {
     bytes: [u8; 16],
     n: usize,

@@ -3,7 +3,7 @@ ghost use Rattle.std.specs.Prelude.{◌≡◌, true, ◌↔◌, ℤ};
 ghost use Rattle.jumper.specs.Limits.{AcceptedOffset};
 ghost use Rattle.jumper.specs.Range.{Within, whole_range, is_empty, meet_of};
 
-#[derive(Drop)]
+#[derive(Clone, Copy)]
 pub struct OffsetRange {
     pub low: i32,
     pub high: i32,

@@ -4,13 +4,13 @@ ghost use Rattle.jumper.specs.Refusals.{refusal_numbers, refused_with, side_numb
 
 // Which way top pads lie too far off: RIGHT, top pad i is too far right of bottom pad i + r; LEFT, top pad i + r is too far left of bottom pad i. r is the
 // number at which the rule is read for the separation.
-#[derive(Drop)]
+#[derive(Clone, Copy)]
 pub enum Side {
     Right,
     Left,
 }
 
-#[derive(Drop)]
+#[derive(Clone, Copy)]
 pub enum Refusal {
     Unequal,
     Empty,
@@ -36,7 +36,7 @@ pub enum Refusal {
 
 // All the result numbers of an answer. What an answer doesn't speak of is 0.
 #[repr(C)]
-#[derive(Drop)]
+#[derive(Clone, Copy)]
 pub struct Numbers {
     pub refusal: u8,
     pub place: usize,

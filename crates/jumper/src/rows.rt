@@ -9,7 +9,7 @@ use crate::limits::{FIRST_COLUMN, LAST_COLUMN, MAX_PAIRS};
 use crate::refusal::{Numbers, Refusal, carrying};
 
 // The answer of every check: no fault, or the first.
-#[derive(Drop)]
+#[derive(Clone, Copy)]
 pub enum Checked {
     Accepted,
     Refused(Refusal),

@@ -2,7 +2,7 @@
 ghost use Rattle.std.specs.Prelude.{◌≡◌};
 ghost use Rattle.plan.specs.Wish.{wish_of};
 
-#[derive(Drop)]
+#[derive(Clone, Copy)]
 pub enum Wish {
     // Does this separation fit at this offset?
     Fit(usize, i32),

@@ -10,20 +10,20 @@ use jumper::rows::Checked;
 use whole::differs;
 
 // How far the frames have come: the wire and its track that are next, and the place after what was written.
-#[derive(Drop)]
+#[derive(Clone, Copy)]
 pub struct Reached {
     pub wire: usize,
     pub track: usize,
     pub at: usize,
 }
 
-#[derive(Drop)]
+#[derive(Clone, Copy)]
 struct Wrote {
     done: bool,
     at: usize,
 }
 
-#[derive(Drop)]
+#[derive(Clone, Copy)]
 struct OnWire {
     track: usize,
     at: usize,

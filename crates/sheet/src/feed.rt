@@ -11,20 +11,20 @@ use events::step::{on_end, on_rest};
 use jumper::limits::MAX_PAIRS;
 
 // A state, how much of the piece was taken in, and the place after what was written.
-#[derive(Drop)]
+#[derive(Clone, Copy)]
 pub struct Feeding {
     pub s: State,
     pub used: usize,
     pub n: usize,
 }
 
-#[derive(Drop)]
+#[derive(Clone, Copy)]
 struct Keeping {
     at: usize,
     i: usize,
 }
 
-#[derive(Drop)]
+#[derive(Clone, Copy)]
 struct Taking {
     s: State,
     used: usize,

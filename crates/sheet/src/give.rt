@@ -11,7 +11,7 @@ use jumper::refusal::Refusal;
 use route::moves::give_moves;
 
 // A state, and the place after what was written.
-#[derive(Drop)]
+#[derive(Clone, Copy)]
 pub struct Giving {
     pub s: State,
     pub n: usize,

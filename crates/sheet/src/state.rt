@@ -14,7 +14,7 @@ use jumper::refusal::{Numbers, Refusal};
 // The first `at` places of the lent line hold the text of the current line; the rows of the machine's open line are lent too. Still to write: if `cut`,
 // a 20 with SEQUENCE for the line `former`; if `due`, the 20 `answer`; then, of a line not refused, the frames 21 of `wires` wires from `wire` and
 // its `track` on.
-#[derive(Drop)]
+#[derive(Clone, Copy)]
 pub struct State {
     pub at: usize,
     pub machine: Machine,
