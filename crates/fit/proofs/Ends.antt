@@ -7,7 +7,7 @@ use lib.ListN.{length}
 use lib.IntN.{ℤ, pos, ◌+ℤ◌, ◌-ℤ◌, nat_abs}
 use lib.Signed.{lt_z, mag}
 use Rattle.whole.specs.Pick.{largest_at, smallest_at}
-use Rattle.whole.proofs.Arith.{up, down, arithℤ, sum, dif}
+use Rattle.whole.proofs.Arith.{arithℤ, sum, dif}
 use Rattle.whole.proofs.Order.{lt_same}
 use Rattle.whole.proofs.Machine.{fits32, abs_sum, abs_dif}
 use Rattle.wiring.specs.Wiring.{pad}

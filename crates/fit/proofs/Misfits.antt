@@ -10,7 +10,7 @@ use native.Mathlib.Omega.{arith}
 use lib.ListN.{length}
 use lib.IntN.{ℤ}
 use lib.Signed.{◌≤ℤ◌, ◌<ℤ◌}
-use Rattle.whole.proofs.Arith.{up, down, arithℤ}
+use Rattle.whole.proofs.Arith.{arithℤ}
 use Rattle.whole.proofs.Order.{true_lt, false_lt}
 use Rattle.wiring.specs.Wiring.{HasWiring}
 use Rattle.wiring.specs.Fit.{lean_of, low_end, high_end, Fits, TooRight, TooLeft}

@@ -3,14 +3,14 @@ use mathlib.Core.Path.{◌≡◌, refl, sym, ◌∙◌}
 use mathlib.Core.Bool.{Bool, true, false}
 use mathlib.Core.List.{List}
 use mathlib.Core.Logic.{◌↔◌}
-use Prim.Native.Nat.{ℕ, ◌+◌, ◌-◌, ◌<◌, ◌≤◌}
+use Prim.Native.Nat.{ℕ, ◌-◌, ◌<◌, ◌≤◌}
 use native.Mathlib.Decide.{dec_lt}
 use native.Mathlib.Omega.{arith}
 use borrow.Author.Tests.{lt-ltb, le-ltb}
 use lib.ListN.{length}
 use lib.IntN.{ℤ, pos, neg_ℤ, ◌+ℤ◌, ◌-ℤ◌}
 use Rattle.whole.specs.Pick.{largest_at, smallest_at}
-use Rattle.whole.proofs.Arith.{up, down, arithℤ, sum, dif}
+use Rattle.whole.proofs.Arith.{arithℤ, sum, dif}
 use Rattle.whole.proofs.Order.{false_lt, untrue}
 use Rattle.whole.proofs.Extremes.{largest_law, smallest_law, largest_further, smallest_further}
 use Rattle.wiring.specs.Wiring.{HasWiring}
