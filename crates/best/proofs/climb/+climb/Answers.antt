@@ -1,4 +1,4 @@
-use Rattle.std.proofs.Common.{rules, ◌≡◌, ℕ, ◌+◌, ◌-◌, ◌*◌, ◌<◌, ◌≤◌, length, arith}
+use Rattle.std.proofs.Common.{◌≡◌, ◌-◌, length, arith}
 use borrow.Rule.Slice.PartMut.{mid_len, same_len_mid}
 use Rattle.best.specs.Work.{level_entries}
 use Rattle.best.proofs.Levels.{some_levels}

@@ -1,4 +1,4 @@
-use Rattle.std.proofs.Common.{sym, ◌*◌, arith}
+use Rattle.std.proofs.Common.{sym, arith}
 use Rattle.best.specs.Work.{level_entries}
 use Rattle.best.proofs.Levels.{from_none}
 use Rattle.best.proofs.Choices.{open_odd, past_odd}

@@ -1,4 +1,4 @@
-use Rattle.std.proofs.Common.{sym, ◌*◌}
+use Rattle.std.proofs.Common.{sym}
 use Rattle.best.specs.Work.{level_entries}
 use Rattle.best.proofs.Choices.{empty_even, open_even}
 use Rattle.best.proofs.level.try_even.Goals as goal

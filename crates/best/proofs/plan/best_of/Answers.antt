@@ -1,8 +1,7 @@
-use Rattle.std.proofs.Common.{◌≡◌, sym, ◌∙◌, arith}
-use Rattle.jumper.specs.Rows.{check_rows}
+use Rattle.std.proofs.Common.{sym, arith}
 use Rattle.jumper.proofs.Accepted.{rows_of}
 use Rattle.best.proofs.Levels.{few_levels}
-use Rattle.best.proofs.Answers.{rows_refused, buffer_short, found, ladder_rungs, plannable}
+use Rattle.best.proofs.Answers.{rows_refused, buffer_short, found, ladder_rungs}
 use Rattle.best.proofs.plan.best_of.Goals as goal
 
 pub overflow_mul-count_levels : goal.overflow_mul-count_levels

@@ -1,4 +1,4 @@
-use Rattle.best.proofs.Plans.{climb_plan, keeps_plan, planned}
+use Rattle.best.proofs.Plans.{keeps_plan, planned}
 use Rattle.best.proofs.plan.halve.Goals as goal
 
 pub kept_or_read-range-requires : goal.kept_or_read-range-requires

@@ -1,4 +1,3 @@
-use Rattle.std.proofs.Common.{sym, ◌∙◌}
 use Rattle.wiring.specs.Fit.{lean_of}
 use Rattle.best.proofs.Choices.{read_range}
 use Rattle.best.proofs.Plans.{whole_trial}

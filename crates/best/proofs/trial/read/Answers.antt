@@ -1,4 +1,4 @@
-use Rattle.std.proofs.Common.{◌∙◌, ◌+◌, ◌*◌, ◌<◌, length, arith, rules, w32}
+use Rattle.std.proofs.Common.{◌∙◌, ◌+◌, arith, rules, w32}
 use mir.Val.{SFits}
 use Rattle.std.proofs.lemmas.Int.{to_z-of_z}
 use Rattle.best.specs.Work.{low_read, high_read}
