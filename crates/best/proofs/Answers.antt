@@ -7,7 +7,7 @@ use native.Mathlib.Omega.{arith}
 use borrow.Author.Tests.{lt-ltb, le-ltb}
 use lib.ListN.{length}
 use lib.IntN.{ℤ}
-use Rattle.whole.proofs.Arith.{up, down, arithℤ}
+use Rattle.whole.proofs.Arith.{arithℤ}
 use Rattle.wiring.specs.Wiring.{pad, HasWiring}
 use Rattle.wiring.specs.Fit.{lean_of}
 use Rattle.wiring.specs.Tracks.{rule_at, tracks_for}

@@ -9,7 +9,7 @@ use native.Mathlib.Omega.{arith}
 use borrow.Author.Tests.{lt-ltb, le-ltb}
 use lib.ListN.{length}
 use lib.IntN.{ℤ, ◌-ℤ◌}
-use Rattle.whole.proofs.Arith.{up, down, arithℤ}
+use Rattle.whole.proofs.Arith.{arithℤ}
 use Rattle.whole.proofs.Order.{true_lt, false_lt}
 use Rattle.wiring.specs.Fit.{Steady, Fits, evens, half}
 use Rattle.wiring.proofs.Rule.{fits_above}

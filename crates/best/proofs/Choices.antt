@@ -6,7 +6,7 @@ use Prim.Native.Nat.{ℕ, ◌+◌, ◌-◌, ◌*◌, ◌≤◌, ◌<◌}
 use native.Mathlib.Omega.{arith}
 use lib.ListN.{length}
 use lib.IntN.{ℤ}
-use Rattle.whole.proofs.Arith.{up, down, arithℤ}
+use Rattle.whole.proofs.Arith.{arithℤ}
 use Rattle.whole.proofs.Order.{true_lt, false_lt}
 use Rattle.wiring.specs.Fit.{lean_of}
 use Rattle.jumper.specs.Range.{is_empty}

@@ -7,7 +7,7 @@ use borrow.Rule.Slice.PartMut.{mid_of, put_mid}
 use lib.ListN.{length, take, drop, length-drop, drop_of_length-le}
 use lib.Seq.{take_all, drop_at, drop-drop, length-take-le}
 use lib.IntN.{ℤ}
-use Rattle.whole.proofs.Arith.{up, down, arithℤ}
+use Rattle.whole.proofs.Arith.{arithℤ}
 use Rattle.wiring.specs.Fit.{evens, half}
 use Rattle.best.specs.Halving.{taken, from_half, Halving, halving}
 use Rattle.best.specs.Work.{level_entries, Choosable, IsLevel, Chosen, lowest_level, Climbable, Halved, Climbed}

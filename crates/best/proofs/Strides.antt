@@ -8,7 +8,7 @@ use lib.ListN.{length}
 use lib.IntN.{ℤ, pos, neg_ℤ, ◌+ℤ◌, ◌-ℤ◌, nat_abs}
 use lib.Signed.{mag}
 use Rattle.whole.specs.Pick.{largest_at, smallest_at, largest, smallest}
-use Rattle.whole.proofs.Arith.{up, down, arithℤ, dif, sum}
+use Rattle.whole.proofs.Arith.{arithℤ, dif, sum}
 use Rattle.whole.proofs.Machine.{abs_sum, abs_dif, fits32}
 use Rattle.whole.proofs.Extremes.{largest_further, smallest_further}
 use Rattle.wiring.specs.Wiring.{pad}

@@ -1,5 +1,6 @@
 // Floor 5: the best separation of two rows, by halving.
 #![tactic(auto)]
+
 mod climb;
 mod level;
 pub mod plan;
