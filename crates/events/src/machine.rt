@@ -48,6 +48,7 @@ pub fn fresh() -> Machine
 }
 
 // Whether it is inside a line: a machine that no call made may have counts that can't be.
+#[tactic(auto, unfolding(crate::specs::Steps::is_inside))]
 pub(crate) fn is_inside(m: Machine) -> bool
     ensures { result ≡ is_inside m }
 {

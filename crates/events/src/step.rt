@@ -66,6 +66,7 @@ fn pass(seen: u64) -> Step
 }
 
 // A good header: refused, or its line is open.
+#[tactic(auto, unfolding(crate::specs::Events::headed))]
 fn head(m: Machine, o: Order) -> Step
     ensures { result ≡ step_of (headed (seen_by m) o) (with_line m.seen o.line) }
 {
@@ -122,6 +123,7 @@ fn put(columns: &[i32], k: usize, row: &mut [i32], to: usize)
 }
 
 // Whether k columns for a line are next in a row of the open line that has some already.
+#[tactic(auto, unfolding(crate::specs::Events::is_next))]
 fn is_next(order: Order, have: usize, line: u8, k: usize) -> bool
     requires { (have ≤ max_pairs) × (k ≤ 16) }
     ensures { result ≡ is_next order have line k }

@@ -5,6 +5,7 @@ ghost use Rattle.frame.specs.Hex.{DigitRead, WorthsRead, BytesLaid, Decoded};
 use std::num;
 
 // The worth of a digit, 16 for a byte that is none.
+#[tactic(auto, unfolding(crate::specs::Hex::is_digit, crate::specs::Hex::value_of))]
 fn digit(c: u8) -> u8
     ensures { DigitRead c result }
 {

@@ -86,6 +86,7 @@ fn room(len: usize, at: usize) -> usize
     if at <= len { len - at } else { 0 }
 }
 
+#[tactic(auto, unfolding(crate::specs::Puts::puts, crate::specs::Hex::text_of))]
 fn put_byte(out: &mut [u8], at: usize, b: u8, digits: &[u8; 16])
     requires { (at + 2 ≤ length out.old) × Digits digits.now }
     ensures { out.new ≡ puts out.old at (byte_text b) }
