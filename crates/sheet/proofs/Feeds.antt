@@ -70,7 +70,7 @@ pub data Drain (a b : List ℤ) : State → List ℕ → State → Type 0 where
   dry : {s : State} → Drain a b s [] s
   gives : {s r t : State} {out out' w : List ℕ} {to : ℕ} → Given s a b out 0 r to out' → Drain a b r w t → Drain a b s (take to out' ++ w) t
 
-drained : {s t : State} {a b : List ℤ} {w : List ℕ} (line : List ℕ) → Drain a b s w t → (owes s line a b [] ≡ w ++ owes t line a b []) × (later t line a b [] ≡ later s line a b [])
+drained : {a b : List ℤ} {s t : State} {w : List ℕ} (line : List ℕ) → Drain a b s w t → (owes s line a b [] ≡ w ++ owes t line a b []) × (later t line a b [] ≡ later s line a b [])
 drained line dry = (refl, refl)
 drained {a = a} {b = b} line (gives {s = s} {r = r} {out = out} {out' = out'} {w = w} {to = to} g p) =
     let d = drained line p in
