@@ -1,5 +1,5 @@
 -- The invariant: the frames that stand and those of the tracks from `t` on are the ones asked for; `x` is the column on which the wire enters track `t`.
-use Rattle.std.proofs.Common.{◌≡◌, ◌++◌, ◌+◌, ◌-◌, ◌≤◌, length, take, w32, to_z}
+use Rattle.std.proofs.Common.{◌≡◌, ◌++◌, ◌-◌, ◌≤◌, length, take}
 use Rattle.wiring.specs.Wiring.{pad, top_pad}
 use Rattle.wiring.specs.Drawing.{column_at, drawn}
 use Rattle.route.specs.Moves.{wire_text}
