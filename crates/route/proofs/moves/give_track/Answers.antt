@@ -11,12 +11,12 @@ pub returns-then-differs : goal.returns-then-differs
 returns-then-differs c =
     let f1 : SFits w32 c.args.m.from = search rules in
     let f2 : SFits w32 c.args.m.to = search rules in
-    let test = rw (to_z-of_z w32 _ f1, to_z-of_z w32 _ f2) at (sym c.differs.ensures ∙ c.if-differs.true) in
+    let test = simp (to_z-of_z w32 _ f1, to_z-of_z w32 _ f2) at (sym c.differs.ensures ∙ c.if-differs.true) in
     track_put c.args.m c.args.out.now c.args.at _ _ c.put_move-p.ensures c.if-p-at.false test
 
 pub returns : goal.returns
 returns c =
     let f1 : SFits w32 c.args.m.from = search rules in
     let f2 : SFits w32 c.args.m.to = search rules in
-    let test = rw (to_z-of_z w32 _ f1, to_z-of_z w32 _ f2) at (sym c.differs.ensures ∙ c.if-differs.false) in
+    let test = simp (to_z-of_z w32 _ f1, to_z-of_z w32 _ f2) at (sym c.differs.ensures ∙ c.if-differs.false) in
     track_none c.args.m c.args.out.now c.args.at test
