@@ -1,11 +1,11 @@
 -- The marks of a wish stay outside what is accepted (02, #105: "the sheet's marks FFFF and 80000000 stay outside"): an accepted separation is never read as
 -- "least", an accepted offset never as "best", whatever stands beside it.
-use mathlib.Core.Path.{◌≡◌, refl}
+use mathlib.Core.Path.{◌≡◌}
 use Prim.Native.Nat.{ℕ, ◌≤◌}
 use native.Mathlib.Omega.{arith}
 use borrow.Author.Tests.{ne_eqb}
 use lib.IntN.{ℤ}
-use Rattle.whole.proofs.Arith.{up, down, arithℤ}
+use Rattle.whole.proofs.Arith.{arithℤ}
 use Rattle.whole.proofs.Order.{le_false}
 use Rattle.jumper.specs.Limits.{max_tracks, AcceptedOffset}
 use Rattle.plan.specs.Wish.{least_mark, best_mark, wish_of}
