@@ -10,7 +10,7 @@ use borrow.Author.Tests.{lt-ltb, le-ltb}
 use lib.ListN.{length, take, drop, length-append}
 use lib.Seq.{take_at}
 use lib.IntN.{ℤ}
-use Rattle.wiring.specs.Wiring.{at, Legal, pad, top_pad, HasWiring}
+use Rattle.wiring.specs.Wiring.{Legal, pad, top_pad, HasWiring}
 use Rattle.wiring.specs.Fit.{Rising}
 use Rattle.wiring.specs.Tracks.{rule_at}
 use Rattle.wiring.specs.Table.{up_from, wire_of, LegalTable}

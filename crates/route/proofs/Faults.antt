@@ -12,7 +12,7 @@ use lib.Dec.{eqb, ltb}
 use lib.IntN.{ℤ}
 use lib.Signed.{◌≤ℤ◌, lt_z, le_z}
 use Rattle.whole.specs.Pick.{differ}
-use Rattle.whole.proofs.Arith.{up, down, arithℤ}
+use Rattle.whole.proofs.Arith.{arithℤ}
 use Rattle.whole.proofs.Order.{untrue, true_lt, false_lt, true_le, false_le}
 use Rattle.jumper.specs.Rows.{pick, or_else}
 use Rattle.jumper.proofs.Accepted.{refused_not}

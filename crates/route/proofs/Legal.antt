@@ -8,7 +8,7 @@ use native.Mathlib.Omega.{arith}
 use lib.IntN.{ℤ}
 use lib.Signed.{◌≤ℤ◌, ◌<ℤ◌}
 use Rattle.whole.specs.Pick.{larger_of, smaller_of}
-use Rattle.whole.proofs.Arith.{up, down, arithℤ, ≤_or_<}
+use Rattle.whole.proofs.Arith.{arithℤ, ≤_or_<}
 use Rattle.whole.proofs.Order.{larger_law, smaller_law, larger_left, larger_right, smaller_left, smaller_right}
 use Rattle.wiring.specs.Wiring.{at}
 use Rattle.wiring.specs.Fit.{Rising}

@@ -14,7 +14,7 @@ use lib.Seq.{take_all, get_or-drop}
 use lib.IntN.{ℤ, pos}
 use lib.Signed.{◌<ℤ◌, lt_z}
 use Rattle.whole.specs.Pick.{larger_of, smaller_of}
-use Rattle.whole.proofs.Arith.{up, down, arithℤ, ≤_or_<}
+use Rattle.whole.proofs.Arith.{arithℤ, ≤_or_<}
 use Rattle.whole.proofs.Order.{untrue, true_lt, false_lt, larger_law, smaller_law}
 use Rattle.wiring.specs.Wiring.{pad}
 use Rattle.route.specs.Table.{column_in}

@@ -10,7 +10,7 @@ use lib.Seq.{drop-cons}
 use lib.IntN.{ℤ, pos, ◌+ℤ◌, ◌-ℤ◌}
 use lib.Signed.{◌≤ℤ◌, lt_z}
 use Rattle.whole.specs.Pick.{larger_of, smaller_of}
-use Rattle.whole.proofs.Arith.{up, down, arithℤ, sum, dif}
+use Rattle.whole.proofs.Arith.{arithℤ, sum, dif}
 use Rattle.whole.proofs.Order.{true_lt, false_lt, larger_right, smaller_right}
 use Rattle.wiring.specs.Wiring.{pad, top_pad}
 use Rattle.wiring.specs.Drawing.{rightward, leftward, entry}

@@ -10,7 +10,7 @@ use lib.Dec.{ltb}
 use lib.IntN.{ℤ, pos, ◌+ℤ◌, ◌-ℤ◌}
 use lib.Signed.{◌≤ℤ◌, ◌<ℤ◌, lt_z}
 use Rattle.whole.specs.Pick.{larger_of, smaller_of}
-use Rattle.whole.proofs.Arith.{up, down, arithℤ, sum, dif}
+use Rattle.whole.proofs.Arith.{arithℤ, sum, dif}
 use Rattle.whole.proofs.Order.{true_lt, false_lt, larger_law, smaller_law}
 use Rattle.wiring.specs.Fit.{Rising}
 use Rattle.wiring.specs.Drawing.{rightward, leftward, entry, column_at, drawn}

@@ -1,9 +1,9 @@
 -- The halving law (003, sections 3 and 4), with one offset in hand: what fits the even half, and what fits the whole.
 use mathlib.Core.Path.{◌≡◌, ap}
-use Prim.Native.Nat.{ℕ, ◌+◌, ◌-◌, ◌*◌, ◌/◌}
+use Prim.Native.Nat.{ℕ, ◌+◌, ◌*◌, ◌/◌}
 use native.Mathlib.Omega.{arith}
 use lib.IntN.{ℤ, ◌-ℤ◌}
-use Rattle.whole.proofs.Arith.{up, down, arithℤ, dif}
+use Rattle.whole.proofs.Arith.{arithℤ, dif}
 use Rattle.wiring.specs.Fit.{Steady, Fits, evens, half}
 
 pub evens_steady : {n : ℕ} {x : ℕ → ℤ} → Steady n x → Steady (half n) (evens x)

@@ -5,7 +5,7 @@ use mathlib.Core.Logic.{◌↔◌}
 use Prim.Native.Nat.{ℕ, suc, ◌+◌, ◌-◌, ◌<◌}
 use native.Mathlib.Omega.{arith}
 use lib.IntN.{ℤ, pos, neg_ℤ, ◌-ℤ◌}
-use Rattle.whole.proofs.Arith.{up, down, arithℤ, dif, neg}
+use Rattle.whole.proofs.Arith.{arithℤ, dif, neg}
 use Rattle.wiring.specs.Wiring.{Wirable}
 use Rattle.wiring.specs.Tracks.{rule_at}
 use Rattle.wiring.specs.Fit.{lean, Rising, low_end, high_end, Fits, TooRight, TooLeft, behind}

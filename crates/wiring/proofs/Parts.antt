@@ -5,7 +5,7 @@ use Prim.Native.Nat.{ℕ, zero, suc, ◌+◌, ◌-◌, ◌<◌}
 use native.Mathlib.Omega.{arith}
 use lib.ListN.{length, length-map, length-append, get_or-append}
 use lib.IntN.{ℤ, pos, ◌+ℤ◌}
-use Rattle.whole.proofs.Arith.{up, down, arithℤ}
+use Rattle.whole.proofs.Arith.{arithℤ}
 use Rattle.wiring.specs.Wiring.{Point, Legal, Wirable, pad, top_pad, HasWiring}
 use Rattle.wiring.specs.Fit.{Rising, Steady, Fits}
 use Rattle.wiring.specs.Tracks.{rule_at}

@@ -5,7 +5,7 @@ use Prim.Native.Nat.{ℕ, zero, suc, ◌+◌, ◌-◌, ◌≤◌, ◌<◌}
 use native.Mathlib.Omega.{arith}
 use lib.IntN.{ℤ, pos, ◌+ℤ◌}
 use lib.Signed.{◌≤ℤ◌, ◌<ℤ◌}
-use Rattle.whole.proofs.Arith.{up, down, arithℤ, sum, dif}
+use Rattle.whole.proofs.Arith.{arithℤ, sum, dif}
 use Rattle.wiring.specs.Fit.{lean, Rising, Steady, low_end, high_end, Fits, TooRight, TooLeft}
 
 -- a rising row rises by one at least at each place

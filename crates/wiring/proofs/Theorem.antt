@@ -7,7 +7,7 @@ use Prim.Native.Nat.{ℕ, zero, suc, ◌+◌, ◌-◌, ◌≤◌, ◌<◌}
 use native.Mathlib.Decide.{dec_lt}
 use native.Mathlib.Omega.{arith}
 use lib.IntN.{ℤ, pos, ◌+ℤ◌}
-use Rattle.whole.proofs.Arith.{up, down, arithℤ, sum, dif}
+use Rattle.whole.proofs.Arith.{arithℤ, sum, dif}
 use Rattle.wiring.specs.Wiring.{Point, Legal, Wirable}
 use Rattle.wiring.specs.Fit.{lean, Rising, Steady, high_end, Fits}
 use Rattle.wiring.specs.Tracks.{rule_at}

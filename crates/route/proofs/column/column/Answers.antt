@@ -1,4 +1,4 @@
-use Rattle.std.proofs.Common.{◌≤◌, arith}
+use Rattle.std.proofs.Common.{arith}
 use Rattle.wiring.proofs.Serves.{rule_most}
 use Rattle.route.proofs.column.column.Goals as goal
 

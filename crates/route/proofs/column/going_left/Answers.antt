@@ -1,4 +1,4 @@
-use Rattle.std.proofs.Common.{sym, ◌∙◌, rules, arith, length, w32}
+use Rattle.std.proofs.Common.{sym, ◌∙◌, rules, arith, w32}
 use mir.Val.{SFits}
 use Rattle.std.proofs.lemmas.Int.{to_z-of_z}
 use Rattle.wiring.specs.Wiring.{pad}

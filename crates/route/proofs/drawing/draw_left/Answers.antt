@@ -1,4 +1,4 @@
-use Rattle.std.proofs.Common.{arith, length, w32}
+use Rattle.std.proofs.Common.{arith, w32}
 use Rattle.std.proofs.lemmas.Int.{to_z-of_z}
 use Rattle.wiring.specs.Wiring.{pad}
 use Rattle.wiring.specs.Drawing.{leftward}

@@ -1,4 +1,4 @@
-use Rattle.std.proofs.Common.{refl, ◌∙◌, rules, arith, length, w32, to_z, of_z}
+use Rattle.std.proofs.Common.{refl, ◌∙◌, rules, arith, w32, to_z, of_z}
 use mir.Val.{SFits}
 use Rattle.std.proofs.lemmas.Int.{to_z-of_z}
 use Rattle.wiring.specs.Wiring.{pad}

@@ -1,5 +1,5 @@
 -- The loop's invariant: the first t places hold the columns, the others what they held.
-use Rattle.std.proofs.Common.{◌≡◌, ◌-◌, ◌≤◌, ◌++◌, drop, length}
+use Rattle.std.proofs.Common.{◌≡◌, ◌-◌, ◌≤◌, ◌++◌, drop}
 use Rattle.wiring.specs.Wiring.{pad}
 use Rattle.wiring.specs.Drawing.{leftward}
 use Rattle.route.specs.Table.{columns}

@@ -1,5 +1,5 @@
 -- The loop's invariant: the first t places hold c, the others what they held.
-use Rattle.std.proofs.Common.{◌≡◌, ◌-◌, ◌≤◌, ◌++◌, drop, length}
+use Rattle.std.proofs.Common.{◌≡◌, ◌-◌, ◌≤◌, ◌++◌, drop}
 use Rattle.route.specs.Table.{columns}
 use Rattle.route.proofs.drawing.straight.Given as goal
 
