@@ -7,6 +7,7 @@ use jumper::refusal::Refusal;
 use jumper::rows::Checked;
 
 // How many pairs stay.
+#[tactic(auto, using(crate::proofs::Keeping::as_many, crate::proofs::Keeping::one_more, crate::proofs::Keeping::kept_few, crate::proofs::Keeping::kept_none))]
 pub(crate) fn pairs_kept(stays: &[u8]) -> usize
     ensures { result ≡ length (kept stays.now) }
 {
@@ -22,6 +23,7 @@ pub(crate) fn pairs_kept(stays: &[u8]) -> usize
 }
 
 // Whether no pair stays. It stops at the first that does, where counting them would read all bytes.
+#[tactic(auto, using(crate::proofs::Keeping::as_many, crate::proofs::Keeping::kept_none, crate::proofs::Keeping::kept_room))]
 fn none_stays(stays: &[u8]) -> bool
     ensures { result ≡ eqb (length (kept stays.now)) 0 }
 {
