@@ -1,4 +1,4 @@
-use Rattle.std.proofs.Common.{ℕ, List, ◌++◌, ◌∙◌, arith, take}
+use Rattle.std.proofs.Common.{◌++◌, ◌∙◌, arith, take}
 use Rattle.sheet.specs.Owes.{frames_from}
 use Rattle.sheet.proofs.Lines.{byte_kept, length_kept, stored_grown, kept_more, kept_end}
 use Rattle.sheet.proofs.feed.keep.Goals as goal

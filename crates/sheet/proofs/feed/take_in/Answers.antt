@@ -1,4 +1,4 @@
-use Rattle.std.proofs.Common.{true, ◌≡◌, true≢false, refl, sym, ◌∙◌, arith, rules}
+use Rattle.std.proofs.Common.{true, ◌≡◌, true≢false, refl, sym, ◌∙◌, arith}
 use Rattle.sheet.specs.Owes.{is_busy}
 use Rattle.sheet.proofs.Steps.{kept_owes, fed_owes, some_taken}
 use Rattle.sheet.proofs.feed.take_in.Goals as goal
