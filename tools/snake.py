@@ -15,8 +15,8 @@ import re
 WORD = r"[^\s(){}\[\];,.:|⌜⌝`\"]+"
 DEFINED = re.compile(r"\s*(?:(?:abbrev|unfoldable|pub|private|instance|record|data|ruleset)\s+)*(" + WORD + r")\s*(?:\(.*\)\s*|\{.*\}\s*)*:(?!:)")
 BLOCK = re.compile(r"\s*(?:pub\s+)?(?:record|data|ruleset)\s+(" + WORD + ")")
-# local names with a capital inside
-LOCAL = {"poolA": "pool_a", "poolB": "pool_b"}
+# names that the rule below doesn't reach: two local ones, and one with a word of one letter
+LOCAL = {"poolA": "pool_a", "poolB": "pool_b", "maxReadAPair": "max_read_a_pair"}
 FIELD = re.compile(r"\s+(?:pub\s+)?(" + WORD + r")\s*:(?!:)")
 
 

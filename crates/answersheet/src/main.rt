@@ -1,5 +1,6 @@
 // Answers a sheet: standard input to standard output. What answers which bytes is all in `sheet`; here they are only read and written.
 #![tactic(auto)]
+
 ghost use Rattle.std.specs.Prelude.{◌≤◌, length};
 
 use jumper::limits::MAX_PAIRS;

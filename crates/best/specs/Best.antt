@@ -9,7 +9,7 @@ use Rattle.jumper.specs.Range.{Within, range_named}
 use Rattle.jumper.specs.Span.{range_of}
 use Rattle.jumper.specs.declared.refusal.Numbers.{Numbers}
 use Rattle.jumper.specs.declared.refusal.Refusal.TheVariants.{Buffer}
-use Rattle.best.specs.Halving.{Halving, halving, max_readAPair, ladder_count}
+use Rattle.best.specs.Halving.{Halving, halving, max_read_a_pair, ladder_count}
 use Rattle.best.specs.declared.plan.Planned.{Planned}
 use Rattle.best.specs.declared.plan.Best.{Best}
 use Rattle.best.specs.declared.plan.Best.TheVariants.{Found, Refused}
@@ -68,4 +68,4 @@ pub record BestAnswer (a b : List ℤ) (before after : List ℕ) (r : Best) : Ty
   pub below : (best_numbers r).refusal ≡ 0 → rule_at (best_numbers r).separation < length a
   -- "The count is therefore fixed by the ladder", and at most 12 are read for each pair
   pub fixed : (best_numbers r).refusal ≡ 0 → (best_numbers r).count ≡ ladder_count (ladder_of a b)
-  pub cheap : (best_numbers r).refusal ≡ 0 → (best_numbers r).count ≤ max_readAPair * length a
+  pub cheap : (best_numbers r).refusal ≡ 0 → (best_numbers r).count ≤ max_read_a_pair * length a

@@ -73,8 +73,8 @@ abbrev pub levels : ℕ → ℕ
 levels m = levels_in m m
 
 -- "at most 12n"
-abbrev pub max_readAPair : ℕ
-max_readAPair = 12
+abbrev pub max_read_a_pair : ℕ
+max_read_a_pair = 12
 
 -- "The count is therefore fixed by the ladder." What the trials of a level of m pairs read, by its best b and its even half's best h:
 -- 2h-1 was tried if h >= 1, and 2h unless 2h-1 was taken

@@ -2,6 +2,7 @@
 // and a record.
 // Each promises which numbers and which buffer, at every input (`answer`, `buffer`), and all that the call it stands for promises (`means`).
 #![tactic(auto)]
+
 ghost use Rattle.std.specs.Prelude.{◌≡◌, length};
 ghost use Rattle.jumper.specs.Rows.{checked_numbers, check_rows, RowCheck};
 ghost use Rattle.fit.specs.Misfit.{fit_of, FitAnswer};

@@ -18,7 +18,7 @@ use Rattle.fit.specs.declared.least.Least.{Least}
 use Rattle.fit.specs.declared.least.Least.TheVariants.{Straight, Tracks, Refused as NoLeast}
 use Rattle.fit.specs.declared.offsets.Offsets.{Offsets}
 use Rattle.fit.specs.declared.offsets.Offsets.TheVariants.{Range as Offered, Refused as NoRange}
-use Rattle.best.specs.Halving.{max_readAPair, ladder_count}
+use Rattle.best.specs.Halving.{max_read_a_pair, ladder_count}
 use Rattle.best.specs.Best.{best_numbers, best_answer, ladder_of}
 use Rattle.plan.specs.declared.wish.Wish.{Wish}
 use Rattle.plan.specs.declared.wish.Wish.TheVariants.{Fit, Least as Leastwise, Range, Best}
@@ -92,7 +92,7 @@ pub record BestMeans (a b : List ℤ) (r : Numbers) : Type 0 where
   pub none : (t : ℕ) → t < r.separation → (d : ℤ) → HasWiring a b t d → ⊥
   pub within : 2 * rule_at r.separation ≤ length a
   pub fixed : r.count ≡ ladder_count (ladder_of a b)
-  pub cheap : r.count ≤ max_readAPair * length a
+  pub cheap : r.count ≤ max_read_a_pair * length a
 
 abbrev pub Means : Wish → (a b : List ℤ) → Numbers → Type 0
 Means (Fit s d) a b r = FitMeans s d a b r

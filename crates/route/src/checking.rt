@@ -33,6 +33,7 @@ pub fn check_route(a: &[i32], b: &[i32], s: usize, d: i32, table: &[i32]) -> Che
 }
 
 // The column on which wire i enters track t.
+#[tactic(auto, unfolding(crate::specs::Table::column_in))]
 fn column_in(table: &[i32], s: usize, i: usize, t: usize) -> i32
     requires { (s ≤ max_tracks) × (i * (s + 1) + t < length table.now) }
     ensures { result ≡ column_in table.now s i t }
@@ -56,6 +57,7 @@ fn leftmost_of(table: &[i32], s: usize, i: usize, t: usize) -> i32
     whole::smaller(column_in(table, s, i, t), column_in(table, s, i, t + 1))
 }
 
+#[tactic(auto, unfolding(crate::specs::Check::start_wrong))]
 fn start_wrong(a: &[i32], s: usize, table: &[i32], t: usize, i: usize) -> bool
     requires { (s ≤ max_tracks) × (length a.now * (s + 1) ≤ length table.now) × (i < length a.now) }
     ensures { result ≡ start_wrong (pad a.now) (column_in table.now s) t i }
@@ -66,6 +68,7 @@ fn start_wrong(a: &[i32], s: usize, table: &[i32], t: usize, i: usize) -> bool
     false
 }
 
+#[tactic(auto, unfolding(crate::specs::Check::end_wrong))]
 fn end_wrong(a: &[i32], b: &[i32], s: usize, d: i32, table: &[i32], t: usize, i: usize) -> bool
     requires { Asked a.now b.now s d × (length a.now * (s + 1) ≤ length table.now) × (i < length a.now) }
     ensures { result ≡ end_wrong s (top_pad b.now d) (column_in table.now s) t i }
@@ -76,6 +79,7 @@ fn end_wrong(a: &[i32], b: &[i32], s: usize, d: i32, table: &[i32], t: usize, i:
     false
 }
 
+#[tactic(auto, unfolding(crate::specs::Check::steps_aside))]
 fn steps_aside(n: usize, s: usize, table: &[i32], t: usize, i: usize) -> bool
     requires { (s ≤ max_tracks) × (n * (s + 1) ≤ length table.now) × (i < n) }
     ensures { result ≡ steps_aside s (column_in table.now s) t i }
@@ -88,6 +92,7 @@ fn steps_aside(n: usize, s: usize, table: &[i32], t: usize, i: usize) -> bool
     false
 }
 
+#[tactic(auto, unfolding(crate::specs::Check::run_touches))]
 fn run_touches(n: usize, s: usize, table: &[i32], t: usize, i: usize) -> bool
     requires { (s ≤ max_tracks) × (n * (s + 1) ≤ length table.now) × (i < n) × (t ≤ s) }
     ensures { result ≡ run_touches n s (column_in table.now s) t i }
@@ -100,6 +105,7 @@ fn run_touches(n: usize, s: usize, table: &[i32], t: usize, i: usize) -> bool
     false
 }
 
+#[tactic(auto, unfolding(crate::specs::Check::fault_at))]
 fn fault_at(a: &[i32], b: &[i32], s: usize, d: i32, table: &[i32], t: usize, i: usize) -> bool
     requires { Asked a.now b.now s d × (length a.now * (s + 1) ≤ length table.now) × (i < length a.now) × (t ≤ s) }
     ensures { result ≡ fault_of a.now b.now s d table.now t i }

@@ -1,5 +1,6 @@
 // Floor 1: whole numbers. Almost all of this crate is proof, in proofs/: what lets `omega` work on ℤ and carries an i32 to ℤ and back.
 #![tactic(auto)]
+
 ghost use Rattle.std.specs.Prelude.{◌≡◌};
 ghost use Rattle.whole.specs.Pick.{differ, larger_of, smaller_of};
 

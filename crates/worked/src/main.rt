@@ -1,6 +1,7 @@
 // The worked jumpers of 01 and 02 that ask for a run, and the traps on the bench: a line for each. ../stdout is worked out by hand; the jumpers marked
 // with a star are proved, in ../specs/Table.antt.
 #![tactic(auto)]
+
 ghost use Rattle.std.specs.Prelude.{◌≡◌, ◌≤◌, length};
 
 use best::plan::best_of;

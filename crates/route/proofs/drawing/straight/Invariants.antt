@@ -1,0 +1,10 @@
+-- The loop's invariant: the first t places hold c, the others what they held.
+use Rattle.std.proofs.Common.{◌≡◌, ◌-◌, ◌≤◌, ◌++◌, drop, length}
+use Rattle.route.specs.Table.{columns}
+use Rattle.route.proofs.drawing.straight.Given as goal
+
+abbrev pub invariant-loop-t : goal.invariant-loop-t
+invariant-loop-t l = (l.t ≤ l.k) × (l.out ≡ columns (λ u. l.c) l.t ++ drop l.t l.initial.out)
+
+abbrev pub decreases-loop-t : goal.decreases-loop-t
+decreases-loop-t l = l.k - l.t
