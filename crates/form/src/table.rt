@@ -7,8 +7,7 @@ use jumper::limits::MAX_LINES;
 use jumper::refusal::LINE;
 
 // Answers line k. LINE, and the table as it was, where k is no line or the table is too long.
-#[unsafe(no_mangle)]
-pub extern "C" fn answer_line(table: &mut [Line], k: usize, pool_a: &[i32], pool_b: &[i32]) -> u8
+pub fn answer_line(table: &mut [Line], k: usize, pool_a: &[i32], pool_b: &[i32]) -> u8
     ensures { OneAnswered table.old k pool_a.now pool_b.now result table.new }
 {
     if MAX_LINES < table.len() {
@@ -23,8 +22,7 @@ pub extern "C" fn answer_line(table: &mut [Line], k: usize, pool_a: &[i32], pool
 }
 
 // Answers every line, whatever the others are answered. LINE, and the table as it was, where it is too long.
-#[unsafe(no_mangle)]
-pub extern "C" fn answer_all(table: &mut [Line], pool_a: &[i32], pool_b: &[i32]) -> u8
+pub fn answer_all(table: &mut [Line], pool_a: &[i32], pool_b: &[i32]) -> u8
     ensures { AllAnswered table.old pool_a.now pool_b.now result table.new }
 {
     if MAX_LINES < table.len() {
