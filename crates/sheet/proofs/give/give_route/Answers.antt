@@ -6,6 +6,7 @@ use Rattle.sheet.proofs.give.give_route.Goals as goal
 
 pub returns : goal.returns
 returns c =
-    let f : SFits w32 c.args.s.answer.lowest = search rules in
-    let e = to_z-of_z w32 c.args.s.answer.lowest f in
-    route_given c.args.s _ _ _ _ c.requires.0 c.requires.1 c.requires.2 c.requires.4 _ _ _ _ (rw e at c.give_moves-r.ensures)
+    let low : SFits w32 c.args.s.answer.lowest = search rules in
+    let high : SFits w32 c.args.s.answer.highest = search rules in
+    let g = simp to_z-of_z at c.give_moves-r.ensures in
+    route_given c.args.s _ _ _ _ c.requires.0 c.requires.1 c.requires.2 c.requires.4 _ _ _ _ g
