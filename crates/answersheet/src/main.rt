@@ -201,7 +201,7 @@ fn main(rt: HostRuntime) -> io::Result<ExitCode> {
     let mut line = [0u8; 160];
     let mut a = [0i32; MAX_PAIRS];
     let mut b = [0i32; MAX_PAIRS];
-    let mut out = vec![in rt.alloc(); 0u8; 131072]?;
+    let mut out = [0u8; 131072];
     if run(
         &mut rt.stdin(),
         &mut rt.stdout(),
