@@ -1,4 +1,4 @@
-/* Proved planning of flex jumpers, for C. Link target/staticlib/libcatalog_c.a, which `rt staticlib catalog_c` proves and writes.
+/* Proved planning of flex jumpers, for C. Link target/staticlib/libcatalog_c.a, which `tools/build` proves and writes.
    A row is a pointer and a count of columns. No call has a precondition beyond valid pointers; a refusal writes nothing. */
 #ifndef OBRASTYN_H
 #define OBRASTYN_H
@@ -89,7 +89,7 @@ typedef struct {
 /* One record answered by value: the record with its answer, its order as it was. */
 obrastyn_line obrastyn_answer(obrastyn_line line, const int32_t *a, size_t an, const int32_t *b, size_t bn);
 
-/* From target/staticlib/libform.a (`rt staticlib form`). 0, or 12 (LINE) for no such line or over 64 lines, and then nothing is written. */
+/* From target/staticlib/libform.a, which `tools/build` proves and writes too. 0, or 12 (LINE) for no such line or over 64 lines, and then nothing is written. */
 uint8_t answer_line(obrastyn_line *table, size_t lines, size_t k, const int32_t *a, size_t an, const int32_t *b, size_t bn);
 uint8_t answer_all(obrastyn_line *table, size_t lines, const int32_t *a, size_t an, const int32_t *b, size_t bn);
 

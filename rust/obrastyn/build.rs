@@ -1,4 +1,4 @@
-// The archives that `rt staticlib catalog_c` and `rt staticlib form` write in this repository.
+// The archives that `tools/build` proves and writes in this repository.
 fn main() {
     let root = std::env::var("CARGO_MANIFEST_DIR").unwrap();
     let folder = format!("{root}/../../target/staticlib");

@@ -11,7 +11,6 @@ use jumper::limits::MAX_PAIRS;
 use sheet::feed::{feed, finish};
 use sheet::give::give;
 use sheet::state::{State, busy, fresh};
-use std::io;
 use std::io::{Read, Write};
 use std::process::ExitCode;
 
@@ -197,7 +196,7 @@ fn run<R: Read, W: Write, E: Eprint>(
     drain(output, errors, a, b, out, v, 0).well
 }
 
-fn main(rt: HostRuntime) -> io::Result<ExitCode> {
+fn main(rt: HostRuntime) -> ExitCode {
     let mut line = [0u8; 160];
     let mut a = [0i32; MAX_PAIRS];
     let mut b = [0i32; MAX_PAIRS];
@@ -211,8 +210,8 @@ fn main(rt: HostRuntime) -> io::Result<ExitCode> {
         &mut b,
         &mut out,
     ) {
-        Ok(ExitCode::SUCCESS)
+        ExitCode::SUCCESS
     } else {
-        Ok(ExitCode::FAILURE)
+        ExitCode::FAILURE
     }
 }

@@ -1,5 +1,5 @@
 //! Plans the jumper J of document 01 and prints its route, and that of J with two pads bare.
-//! `cargo run --release --offline --example plan`, after `rt staticlib catalog_c`.
+//! `cargo run --release --offline --example plan`, after `tools/build`.
 fn main() {
     let (below, above) = ([0, 1, 4, 5], [1, 2, 3, 4]);
     let mut ladder = [0usize; 24];

@@ -1,6 +1,6 @@
 //! Proved planning of flex jumpers: one copper layer, a row of pads at each end, pad k below joined to pad k above.
 //!
-//! Every function here is a thin, safe wrapper over the static library that `rt staticlib catalog_c` proves and writes.
+//! Every function here is a thin, safe wrapper over the static libraries that `tools/build` proves and writes.
 //! No call has anything to check first: every input gets an answer, and a refusal has one number and writes nothing.
 //!
 //! ```
@@ -125,7 +125,7 @@ mod raw {
             table: *const i32, places: usize, out: *mut i32, room: usize,
         ) -> Numbers;
         pub fn obrastyn_answer(line: Line, a: *const i32, an: usize, b: *const i32, bn: usize) -> Line;
-        // The two calls over a table of records, from the archive of crate `form`.
+        // The two calls over a table of records, from the archive of crate `form_c`.
         pub fn answer_line(table: *mut Line, lines: usize, k: usize, a: *const i32, an: usize, b: *const i32, bn: usize) -> u8;
         pub fn answer_all(table: *mut Line, lines: usize, a: *const i32, an: usize, b: *const i32, bn: usize) -> u8;
     }

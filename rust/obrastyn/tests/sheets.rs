@@ -1,5 +1,5 @@
 //! The proved program `answersheet` against the reference: random sheets, whole and damaged, byte for byte.
-//! The program is target/bin/answersheet, which `rt check answersheet` proves and builds.
+//! The program is target/bin/answersheet, which `tools/build` proves and builds.
 use reference::random::Random;
 use reference::sheet::answer_sheet;
 use reference::sheetmaker::{damaged_sheet, whole_sheet};
@@ -8,7 +8,7 @@ use std::process::{Command, Stdio};
 
 fn answered(sheet: &[u8]) -> Vec<u8> {
     let program = concat!(env!("CARGO_MANIFEST_DIR"), "/../../target/bin/answersheet");
-    let mut child = Command::new(program).stdin(Stdio::piped()).stdout(Stdio::piped()).spawn().expect("rt check answersheet builds it");
+    let mut child = Command::new(program).stdin(Stdio::piped()).stdout(Stdio::piped()).spawn().expect("tools/build builds it");
     let mut input = child.stdin.take().unwrap();
     let sheet = sheet.to_vec();
     let feeder = std::thread::spawn(move || input.write_all(&sheet));
