@@ -37,6 +37,7 @@ fn copy(table: &[i32], from: usize, k: usize, out: &mut [i32])
 }
 
 // The wires of a table that stay, wire after wire, each with its s + 1 columns.
+#[tactic(auto, using(crate::proofs::Copies::held_room, crate::proofs::Copies::held_part, crate::proofs::Copies::held_read))]
 pub(crate) fn keep_wires(table: &[i32], s: usize, stays: &[u8], out: &mut [i32])
     requires { (s ≤ max_tracks) × (length stays.now * (s + 1) ≤ length table.now) × (places_kept stays.now s ≤ length out.old) }
     ensures { out.new ≡ part_written stays.now s table.now out.old }
