@@ -1,5 +1,4 @@
-use Rattle.std.proofs.Common.{sym, ap, subst, ◌∙◌, arith, w32}
-use native.Mathlib.Nat.{pos_of_ne-zero}
+use Rattle.std.proofs.Common.{◌<◌, sym, ap, subst, ◌∙◌, arith, w32}
 use Rattle.std.proofs.lemmas.Int.{to_z-of_z}
 use Rattle.jumper.specs.declared.refusal.Side.{Side}
 use Rattle.fit.specs.Least.{LeastAnswer}
@@ -23,7 +22,7 @@ found c =
     let e = to_z-of_z w32 c.args.d c.ranges.d in
     let v = rw e at c.loop-t.invariant in
     let none = sym (rw e at c.misfit_from.ensures) ∙ c.in-None.is in
-    let some = pos_of_ne-zero c.if-s-eq0.false in
+    let some : 0 < c.loop-t.s = omega arith in
     seek_tracks c.args.a.now c.args.b.now c.args.d c.requires _ _ _ v c.tracks_for-t.result c.tracks_for-t.ensures none some
 
 pub returns-then-right : goal.returns-then-right
