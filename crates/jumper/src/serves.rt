@@ -10,10 +10,7 @@ use crate::limits::MAX_TRACKS;
 pub fn rule_at(separation: usize) -> usize
     ensures { result ≡ rule_at separation }
 {
-    if 0 < separation {
-        return separation - 1;
-    }
-    0
+    separation.saturating_sub(1)
 }
 
 // The least separation at which the rule is read at this number, as far as separations are accepted: no number of pairs needs more.
