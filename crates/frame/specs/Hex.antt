@@ -1,7 +1,7 @@
 -- Hexadecimal and the sum (01, "Sheets"): "Lines of hexadecimal, one frame a line: capital digits, two a byte, then a line feed. The last byte
 -- makes the sum of all bytes, carried round at 256, come to 0; carries past 255 are dropped."
 use Rattle.std.specs.Prelude.{◌≡◌, ℕ, ◌+◌, ◌-◌, ◌*◌, ◌/◌, ◌%◌, ◌<◌, Bool, true, false, cond, List, [], ◌∷◌, ◌++◌, length, sum, ◌==◌, nat_lt, slice_index}
-use Rattle.std.specs.List.{list_all}
+use Rattle.std.specs.List.{flat_map, list_all}
 
 -- a capital digit: 0 to 9 are the bytes 48 to 57, A to F the bytes 65 to 70
 unfoldable pub is_digit : ℕ → Bool
@@ -15,15 +15,17 @@ value_of c = cond (is_digit c) (cond (nat_lt c 58) (c - 48) (c - 55)) 0
 unfoldable pub digit_of : ℕ → ℕ
 digit_of d = cond (nat_lt d 10) (48 + d) (55 + d)
 
--- "two a byte": the bytes of a text, and the text of bytes
+-- "two a byte": the bytes of a text, the digits of a byte, and the text of bytes
 unfoldable pub bytes_of : List ℕ → List ℕ
 bytes_of [] = []
 bytes_of (h ∷ []) = []
 bytes_of (h ∷ l ∷ cs) = (16 * value_of h + value_of l) ∷ bytes_of cs
 
+abbrev pub byte_text : ℕ → List ℕ
+byte_text b = digit_of (b / 16 % 16) ∷ digit_of (b % 16) ∷ []
+
 unfoldable pub text_of : List ℕ → List ℕ
-text_of [] = []
-text_of (b ∷ bs) = digit_of (b / 16 % 16) ∷ digit_of (b % 16) ∷ text_of bs
+text_of bs = flat_map byte_text bs
 
 -- the byte that makes the sum of these bytes and itself, carried round at 256, come to 0
 unfoldable pub last_byte : List ℕ → ℕ

@@ -1,6 +1,5 @@
 -- What the calls do to lent memory, at every input.
 use Rattle.std.specs.Prelude.{◌≡◌, ℕ, ◌+◌, ◌<◌, ◌≤◌, cond, ◌==◌, List, [], ◌∷◌, length, ℤ, slice_set, Option, None, Some}
-use Rattle.frame.specs.Hex.{text_of}
 use Rattle.frame.specs.Frame.{Frame, fours, count_of, said_of, columns_of}
 use Rattle.frame.specs.declared.read.Said.{Said}
 
@@ -20,10 +19,6 @@ pub record ReadIn (f : Frame) (columns : List ℤ) (r : Option Said) (columns' :
   pub carried : columns' ≡ puts columns 0 (columns_of f)
 
 -- ---- what the parts of the code promise each other
-
--- the two digits of a byte
-abbrev pub byte_text : ℕ → List ℕ
-byte_text b = text_of (b ∷ [])
 
 -- the columns of a sound text's bytes, from the first place on, and how many, if there are some
 pub record Carried (bs : List ℕ) (columns : List ℤ) (r : Option ℕ) (columns' : List ℤ) : Type 0 where

@@ -1,8 +1,8 @@
 // The frames of an answer, field by field, written as lines.
 ghost use Rattle.std.specs.Prelude.{◌≡◌, ◌+◌, ◌≤◌, length};
-ghost use Rattle.frame.specs.Hex.{line_of};
+ghost use Rattle.frame.specs.Hex.{byte_text, line_of};
 ghost use Rattle.frame.specs.Written.{two_bytes, answer_line, move_line};
-ghost use Rattle.frame.specs.Puts.{puts, byte_text, LinePut};
+ghost use Rattle.frame.specs.Puts.{puts, LinePut};
 
 // The numbers of a frame 20.
 #[derive(Clone, Copy, Debug, PartialEq, Eq)]
@@ -36,7 +36,7 @@ fn two(x: usize) -> [u8; 2]
     ((x % 0x10000) as u16).to_be_bytes()
 }
 
-#[tactic(auto, unfolding(crate::specs::Puts::puts, crate::specs::Hex::text_of))]
+#[tactic(auto, using(crate::proofs::Puts::digit_at), unfolding(crate::specs::Puts::puts))]
 fn put_byte(out: &mut [u8], at: usize, b: u8)
     requires { at + 2 ≤ length out.old }
     ensures { out.new ≡ puts out.old at (byte_text b) }
