@@ -1,9 +1,9 @@
 -- Runs of stores: a line's digits, a row's columns.
 -- Sections: stores in general; a frame's line; columns; the two frames of an answer.
-use Rattle.std.proofs.Common.{◌≡◌, ℕ, zero, suc, ◌+◌, ◌-◌, ◌*◌, ◌%◌, ◌<◌, ◌≤◌, List, [], ◌∷◌, ◌++◌, length, get_or, take, drop, set, sum, ℤ, sym, refl, ap, ◌∙◌, append_assoc, append-nil, add-one, arith, length-append, length-set, length-take-le, take-suc-set}
+use Rattle.std.proofs.Common.{◌≡◌, ℕ, zero, suc, ◌+◌, ◌-◌, ◌*◌, ◌%◌, ◌<◌, ◌≤◌, List, [], ◌∷◌, ◌++◌, length, get_or, take, drop, set, sum, ℤ, pos, sym, refl, ap, ◌∙◌, append_assoc, append-nil, add-one, arith, length-append, length-set, length-take-le, take-append-drop, take-suc-set}
 use Rattle.std.specs.List.{flat_map}
 use Rattle.std.proofs.lemmas.Grind.{flat_map-append}
-use Rattle.std.proofs.lemmas.List.{take_more}
+use Rattle.std.proofs.lemmas.List.{take_at, take_more, drop-set-lt}
 use Rattle.std.proofs.lemmas.List.FromFn.{get_or-map-range_with_len}
 use Rattle.frame.specs.Hex.{digit_of, byte_text, text_of, last_byte, line_of}
 use Rattle.frame.specs.Frame.{four, fours}
@@ -12,18 +12,25 @@ use Rattle.frame.specs.declared.write.Answer.{Answer}
 use Rattle.frame.specs.declared.write.Move.{Move}
 use Rattle.frame.specs.Puts.{puts, LinePut}
 
--- what was stored stands after what stood before it
-pub take_puts : {A : Type 0} (l : List A) (at : ℕ) (vs : List A) → at + length vs ≤ length l → take (at + length vs) (puts l at vs) ≡ take at l ++ vs
+-- what was stored stands between what stood before it and after it
+pub puts_is : {A : Type 0} (l : List A) (at : ℕ) (vs : List A) → at + length vs ≤ length l → puts l at vs ≡ take at l ++ (vs ++ drop (at + length vs) l)
 unfolding puts
-take_puts l at [] h = let e : at + 0 ≡ at = omega arith in rw (e, append-nil)
-take_puts {A} l at (v ∷ vs) h =
-    let e : at + suc (length vs) ≡ at + 1 + length vs = omega arith in
-    let h' : at + 1 + length vs ≤ length (set l at v) = simp length-set (omega arith) in
+puts_is l at [] h = let e : at + 0 ≡ at = omega arith in rw e (sym (take-append-drop at l))
+puts_is {A} l at (v ∷ vs) h =
+    let e : at + 1 + length vs ≡ at + suc (length vs) = omega arith in
     let t : take (at + 1) (set l at v) ≡ take at l ++ (v ∷ []) = rw (add-one, take-suc-set l at v (omega arith)) in
-    ap (λ (n : ℕ). take n (puts (set l at v) (at + 1) vs)) e
-    ∙ take_puts (set l at v) (at + 1) vs h'
-    ∙ ap (λ (p : List A). p ++ vs) t
-    ∙ append_assoc (take at l) (v ∷ []) vs
+    let d : drop (at + 1 + length vs) (set l at v) ≡ drop (at + suc (length vs)) l =
+        drop-set-lt (at + 1 + length vs) l at v (omega arith) ∙ ap (λ (n : ℕ). drop n l) e in
+    puts_is (set l at v) (at + 1) vs (simp length-set (omega arith))
+    ∙ ap (λ (p : List A). p ++ (vs ++ drop (at + 1 + length vs) (set l at v))) t
+    ∙ ap (λ (p : List A). (take at l ++ (v ∷ [])) ++ (vs ++ p)) d
+    ∙ append_assoc (take at l) (v ∷ []) (vs ++ drop (at + suc (length vs)) l)
+
+pub take_puts : {A : Type 0} (l : List A) (at : ℕ) (vs : List A) → at + length vs ≤ length l → take (at + length vs) (puts l at vs) ≡ take at l ++ vs
+take_puts {A} l at vs h =
+    let n : length (take at l ++ vs) ≡ at + length vs = simp (length-append, length-take-le at l (omega arith)) in
+    ap (take (at + length vs)) (puts_is l at vs h ∙ sym (append_assoc (take at l) vs (drop (at + length vs) l)))
+    ∙ take_at (take at l ++ vs) (drop (at + length vs) l) (at + length vs) n
 
 -- a run stored in two parts
 pub puts_append : {A : Type 0} (l : List A) (at : ℕ) (vs ws : List A) → puts l at (vs ++ ws) ≡ puts (puts l at vs) (at + length vs) ws
@@ -101,27 +108,16 @@ not_put bs out at h = let l = line_length bs in record { room = λ k. absurd (om
 
 -- ---- columns
 
-pub column_start : (row : List ℤ) (bs : List ℕ) (k : ℕ) → puts row 0 (fours bs 3 k) ≡ puts row 0 (fours bs (4 * 0 + 3) (k - 0))
-column_start row bs k = let m : k - 0 ≡ k = omega arith in rw m
-
-pub column_more : (row : List ℤ) (bs : List ℕ) (j k : ℕ) (c : ℤ) → j < k → c ≡ four bs (4 * j + 3)
-    → puts row j (fours bs (4 * j + 3) (k - j)) ≡ puts (set row j c) (j + 1) (fours bs (4 * (j + 1) + 3) (k - (j + 1)))
-unfolding puts fours
-column_more row bs j k c h e =
-    let m : k - j ≡ suc (k - (j + 1)) = omega arith in
-    let q : 4 * j + 3 + 4 ≡ 4 * (j + 1) + 3 = omega arith in
-    ap (λ (n : ℕ). puts row j (fours bs (4 * j + 3) n)) m
-    ∙ ap (λ (x : ℤ). puts (set row j x) (j + 1) (fours bs (4 * j + 3 + 4) (k - (j + 1)))) (sym e)
-    ∙ ap (λ (n : ℕ). puts (set row j c) (j + 1) (fours bs n (k - (j + 1)))) q
-
-pub column_none : (row : List ℤ) (bs : List ℕ) (j k : ℕ) → k ≤ j → puts row j (fours bs (4 * j + 3) (k - j)) ≡ row
-unfolding puts fours
-column_none row bs j k h = let m : k - j ≡ 0 = omega arith in ap (λ (n : ℕ). puts row j (fours bs (4 * j + 3) n)) m
-
 pub fours_length : (bs : List ℕ) (i k : ℕ) → length (fours bs i k) ≡ k
 unfolding fours
 fours_length bs i zero = refl
 fours_length bs i (suc k) = ap suc (fours_length bs (i + 4) k)
+
+pub get_or_fours : (bs : List ℕ) (i k j : ℕ) → j < k → get_or (fours bs i k) j (pos 0) ≡ four bs (4 * j + i)
+unfolding fours
+get_or_fours bs i zero j h = absurd (omega arith)
+get_or_fours bs i (suc k) zero h = let e : 4 * 0 + i ≡ i = omega arith in rw e
+get_or_fours bs i (suc k) (suc j) h = let e : 4 * j + (i + 4) ≡ 4 * suc j + i = omega arith in get_or_fours bs (i + 4) k j (omega arith) ∙ ap (four bs) e
 
 -- ---- the two frames of an answer
 

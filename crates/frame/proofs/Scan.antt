@@ -102,4 +102,4 @@ module _ (text worths : List ℕ) (r : Bool) (even : length text % 2 ≡ 0) (w :
       unsound z = sound_is ∙ ne_eqb _ _ z
 
       pub decoded : s ≡ 0 → Decoded text bytes
-      decoded z = record { sound = sound_is ∙ eq-eqb _ _ z; is = bytes_are }
+      decoded z = record { sound = sound_is ∙ eq-eqb _ _ z; is = bytes_are; long = n }

@@ -63,3 +63,4 @@ pub record BytesLaid (worths : List ℕ) (r : ℕ) (bytes : List ℕ) : Type 0 w
 pub record Decoded (text bytes : List ℕ) : Type 0 where
   pub sound : is_sound text ≡ true
   pub is : bytes ≡ bytes_of text
+  pub long : length bytes ≡ length text / 2

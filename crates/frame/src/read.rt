@@ -1,6 +1,6 @@
 // A line read as a frame.
 ghost use Rattle.std.specs.Prelude.{◌≡◌, ◌+◌, ◌*◌, ◌<◌, ◌≤◌, ◌%◌, ◌⊎◌, ◌↔◌, length, IsTrue};
-ghost use Rattle.frame.specs.Frame.{one, two, four, fours, header_of, text_frame, frame_of, said_of};
+ghost use Rattle.frame.specs.Frame.{one, two, four, fours, header_of, kind_of, text_frame, frame_of, said_of};
 ghost use Rattle.frame.specs.Puts.{puts, Carried, ReadIn};
 
 use crate::hex::{LONGEST, decode};
@@ -37,6 +37,7 @@ fn four_at(bytes: &[u8], i: usize) -> i32
 }
 
 // The header of a sound text, from its bytes.
+#[tactic(auto, unfolding(crate::specs::Frame::header_of))]
 fn header(bytes: &[u8]) -> Option<Said>
     requires { 0 < length bytes.now }
     ensures { result ≡ said_of (header_of bytes.now) }
@@ -67,6 +68,20 @@ fn carry(bytes: &[u8], columns: &mut [i32; 16]) -> Option<usize>
     Some(k)
 }
 
+// What a sound text says, from its bytes.
+fn say(bytes: &[u8], columns: &mut [i32; 16]) -> Option<Said>
+    requires { 4 ≤ length bytes.now }
+    ensures { ReadIn (kind_of bytes.now) columns.old result columns.new }
+{
+    let (kind, line) = (bytes[0], bytes[1]);
+    match kind {
+        0x10 => header(bytes),
+        0x11 => Some(Said::Bottom(line, carry(bytes, columns)?)),
+        0x12 => Some(Said::Top(line, carry(bytes, columns)?)),
+        _ => None,
+    }
+}
+
 // Whether a frame's text can be this long: 11 bytes, or 4 and 4 for each column, two digits a byte.
 fn is_length(n: usize) -> bool
     ensures { IsTrue result ↔ ((n ≡ 22) ⊎ ((n % 8 ≡ 0) × (16 ≤ n) × (n ≤ 136))) }
@@ -83,22 +98,12 @@ pub fn read_text(text: &[u8], columns: &mut [i32; 16]) -> Option<Said>
         return None;
     }
     let mut room = [0u8; 68];
-    let bytes = decode(text, &mut room)?;
-    let line = bytes[1];
-    match bytes[0] {
-        0x10 => header(bytes),
-        0x11 => Some(Said::Bottom(line, carry(bytes, columns)?)),
-        0x12 => Some(Said::Top(line, carry(bytes, columns)?)),
-        _ => None,
-    }
+    say(decode(text, &mut room)?, columns)
 }
 
 // What a line says, its line feed with it.
 pub fn read(line: &[u8], columns: &mut [i32; 16]) -> Option<Said>
     ensures { ReadIn (frame_of line.now) columns.old result columns.new }
 {
-    match line {
-        [text @ .., b'\n'] => read_text(text, columns),
-        _ => None,
-    }
+    read_text(line.strip_suffix(b"\n")?, columns)
 }
