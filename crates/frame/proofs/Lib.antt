@@ -2,3 +2,4 @@
 pub mod Scan
 pub mod Puts
 pub mod Frames
+pub mod Back
