@@ -3,11 +3,11 @@
 use Rattle.std.proofs.Common.{◌≡◌, ◌+◌, ◌-◌, ◌≤◌, length, drop, pos, ◌-ℤ◌, ◌≤ℤ◌}
 use Rattle.jumper.specs.Limits.{first_column}
 use Rattle.jumper.specs.Rows.{row_fault, fault_after}
-use Rattle.jumper.proofs.rows.seek_fault.Given as goal
+use Rattle.jumper.proofs.rows.Row.seek_fault.Given as goal
 
 abbrev pub invariant-loop-i : goal.invariant-loop-i
 invariant-loop-i l =
-    (l.i ≤ length l.a) × ((first_column -ℤ pos 1) ≤ℤ l.before) × (row_fault l.base l.a ≡ fault_after l.before (l.base + l.i) (drop l.i l.a))
+    (l.i ≤ length l.fn.self.pads.now) × ((first_column -ℤ pos 1) ≤ℤ l.before) × (row_fault l.fn.self.place l.fn.self.pads.now ≡ fault_after l.before (l.fn.self.place + l.i) (drop l.i l.fn.self.pads.now))
 
 abbrev pub decreases-loop-i : goal.decreases-loop-i
-decreases-loop-i l = length l.a - l.i
+decreases-loop-i l = length l.fn.self.pads.now - l.i
