@@ -150,7 +150,10 @@ impl fmt::Display for Refusal {
             Refusal::Empty => f.write_str("no pairs"),
             Refusal::Long => f.write_str("too many pairs"),
             Refusal::Column(place) => write!(f, "a column out of range, at place {place}"),
-            Refusal::Order(place) => write!(f, "a column not right of the one before, at place {place}"),
+            Refusal::Order(place) => write!(
+                f,
+                "a column not right of the one before, at place {place}"
+            ),
             Refusal::Tracks => f.write_str("the separation is out of range"),
             Refusal::Offset => f.write_str("the offset is out of range"),
             Refusal::Wire => f.write_str("no such wire"),

@@ -18,11 +18,8 @@ pub fn rule_at(separation: usize) -> usize
 pub fn tracks_for(number: usize) -> usize
     ensures { result ≡ min (tracks_for number) max_tracks }
 {
-    if number == 0 {
-        return 0;
+    match number {
+        0 => 0,
+        r => r.saturating_add(1).min(MAX_TRACKS),
     }
-    if MAX_TRACKS <= number {
-        return MAX_TRACKS;
-    }
-    number + 1
 }
