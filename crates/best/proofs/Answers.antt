@@ -18,16 +18,21 @@ use Rattle.jumper.specs.Refusals.{refusal_numbers, AnswerNumbers}
 use Rattle.jumper.specs.declared.refusal.Numbers.{Numbers}
 use Rattle.jumper.specs.Rows.{AcceptedRows, check_rows}
 use Rattle.jumper.specs.declared.refusal.Refusal.{Refusal}
+use Rattle.jumper.specs.declared.rows.Rows.{Rows}
 use Rattle.jumper.specs.declared.refusal.Refusal.TheVariants.{Buffer}
-use Rattle.jumper.proofs.Accepted.{numbered, refused_not, rows_of, of_rows}
+use Rattle.jumper.proofs.Accepted.{numbered, refused_not, of_rows}
 use Rattle.jumper.proofs.Checks.{early_rows}
 use Rattle.jumper.proofs.Spans.{range_exactly}
 use Rattle.jumper.proofs.Wired.{wiring_exactly, wired_first}
 use Rattle.best.specs.Halving.{levels}
 use Rattle.best.specs.Best.{Best, planned_numbers, best_numbers, halving_of, ladder_of, best_answer, BestAnswer}
-use Rattle.best.specs.Work.{Plannable, IsPlanned}
+use Rattle.best.specs.Work.{IsPlanned}
 use Rattle.best.specs.declared.plan.Planned.{Planned}
 use Rattle.best.proofs.Bests.{BestOf, best_is_best, count_fixed, count_cheap, ladder_length}
+
+-- rows that were let through
+pub let_through : {a b : List ℤ} (w : Rows) → (w.bottom.now ≡ a) × (w.top.now ≡ b) → AcceptedRows a b
+let_through w e = rw (e.0, e.1) at w.accepted
 
 module _ (a b : List ℤ) (before : List ℕ) where
   -- a refusal: nothing is said of a separation, and the buffer is as it was
@@ -55,9 +60,9 @@ module _ (a b : List ℤ) (before : List ℕ) where
       let z : AcceptedRows a b → ⊥ = λ r. refused_not f (sym e ∙ of_rows a b r) in
       best_refused f (rw e) (λ r l. z r) ((λ q. absurd (omega arith)), (λ w. absurd (z w.0)))
 
-  module _ (e : check_rows a b ≡ Ok tt) where
-    rows : AcceptedRows a b
-    rows = rows_of a b e
+  module _ (rows : AcceptedRows a b) where
+    e : check_rows a b ≡ Ok tt
+    e = of_rows a b rows
 
     pub buffer_short : length before < length (ladder_of a b) → BestAnswer a b before before (Err Buffer)
     buffer_short h = best_refused Buffer (rw (e, lt-ltb (length before) (length (ladder_of a b)) h)) (λ r l. omega arith) ((λ q. (rows, h)), (λ w. refl))
@@ -97,9 +102,6 @@ module _ (a b : List ℤ) (before : List ℕ) where
     -- the buffer by the number of levels, as the code measures it
     pub ladder_rungs : length (ladder_of a b) ≡ 2 * levels (length a)
     ladder_rungs = ladder_length (length a) (lean_of a) (lean_of b) rows.some
-
-    pub plannable : 2 * levels (length a) ≤ length before → Plannable a b before
-    plannable h = record { rows = rows; rungs = h }
 
 -- "a .. best separation of 0 stays and any other grows by one" (02, #106): none is 1, since what fits at 1 fits at 0
 pub best_not_one : {a b : List ℤ} {before after : List ℕ} {r : Best} → BestAnswer a b before after r → (best_numbers r).refusal ≡ 0 → (best_numbers r).separation ≡ 1 → ⊥

@@ -1,16 +1,15 @@
 // The best separation of two rows, its offsets, and the ladder that led to it.
-ghost use Rattle.std.specs.Prelude.{◌≡◌, length};
-ghost use Rattle.wiring.specs.Fit.{lean_of};
-ghost use Rattle.jumper.specs.Span.{range_of};
+ghost use Rattle.std.specs.Prelude.{◌≡◌, ◌*◌, ◌≤◌, length};
+ghost use Rattle.best.specs.Halving.{levels};
 ghost use Rattle.best.specs.Best.{planned_numbers, BestAnswer};
-ghost use Rattle.best.specs.Work.{Plannable, IsPlanned, Keeps};
+ghost use Rattle.best.specs.Work.{IsPlanned};
 
 use crate::climb::climb;
-use crate::level::{Level, count_levels};
-use crate::trial::try_at;
+use crate::entries::Entries;
+use crate::level::count_levels;
 use jumper::range::OffsetRange;
 use jumper::refusal::{Numbers, Refusal};
-use jumper::rows::check_rows;
+use jumper::rows::Rows;
 use jumper::serves::tracks_for;
 
 #[derive(Clone, Copy, Debug, PartialEq, Eq, Hash)]
@@ -39,36 +38,23 @@ impl From<Planned> for Numbers {
 pub fn best_of(a: &[i32], b: &[i32], ladder: &mut [usize]) -> Result<Planned, Refusal>
     ensures { BestAnswer a.now b.now ladder.old ladder.new result }
 {
-    check_rows(a, b)?;
+    let rows = Rows::check(a, b)?;
     if ladder.len() < 2 * count_levels(a.len()) {
         return Err(Refusal::Buffer);
     }
-    Ok(halve(a, b, ladder))
+    Ok(halve(rows, ladder))
 }
 
-// The whole rows are the level of stride 1. The range of an untried answer is read at the end, outside the count.
-fn halve(a: &[i32], b: &[i32], ladder: &mut [usize]) -> Planned
-    requires { Plannable a.now b.now ladder.old }
-    ensures { IsPlanned a.now b.now ladder.old ladder.new result }
+// The range of an untried answer is read at the end, outside the count.
+fn halve(rows: Rows<'_>, ladder: &mut [usize]) -> Planned
+    requires { 2 * levels (length rows.bottom.now) ≤ length ladder.old }
+    ensures { IsPlanned rows.entry.bottom.now rows.entry.top.now ladder.old ladder.new result }
 {
-    let level = climb(a, b, 1, a.len(), ladder);
-    let range = kept_or_read(a, b, level);
+    let entries = Entries::whole(rows);
+    let level = climb(entries, ladder);
     Planned {
         separation: tracks_for(level.best),
-        range,
+        range: level.range(entries),
         count: level.count,
     }
-}
-
-// The range at the best of the whole rows: kept from its trial, or else read.
-fn kept_or_read(a: &[i32], b: &[i32], level: Level) -> OffsetRange
-    requires { Keeps a.now b.now level }
-    ensures { result ≡ range_of (length a.now) (lean_of a.now) (lean_of b.now) level.best }
-{
-    let range = level.range();
-    if range.is_empty() {
-        let tried = try_at(a, b, a.len(), level.best, 0, 1, 1);
-        return tried.range();
-    }
-    range
 }
