@@ -35,11 +35,11 @@ impl<'a> Entries<'a> {
     }
 
     // Entries 0, 2, 4 ..
-    pub(crate) fn even_half(self) -> Self
-        requires { 1 < self.len }
-        ensures of { result.rows ≡ self.entry.rows }
-        ensures step { result.step ≡ 2 * self.entry.step }
-        ensures len { result.len ≡ half self.entry.len }
+    pub(crate) fn even_half(&self) -> Self
+        requires { 1 < self.now.len }
+        ensures of { result.rows ≡ self.now.rows }
+        ensures step { result.step ≡ 2 * self.now.step }
+        ensures len { result.len ≡ half self.now.len }
     {
         Entries {
             rows: self.rows,
@@ -49,9 +49,9 @@ impl<'a> Entries<'a> {
     }
 
     // The range at s. Each low end is step s further on than the difference that is read for it, and each high end as much less: this is added once.
-    pub(crate) fn range_at(self, s: usize) -> OffsetRange
-        requires { s < self.len }
-        ensures { result ≡ range_of self.entry.len (x_of self.entry) (y_of self.entry) s }
+    pub(crate) fn range_at(&self, s: usize) -> OffsetRange
+        requires { s < self.now.len }
+        ensures { result ≡ range_of self.now.len (x_of self.now) (y_of self.now) s }
     {
         let gap = self.step * s;
         let read = read(self.rows, self.step, gap, self.len - s);
@@ -63,9 +63,9 @@ impl<'a> Entries<'a> {
     }
 
     // How many differences are read for the range at s: two for each entry that has one s further on.
-    pub(crate) fn differences(self, s: usize) -> usize
-        requires { s < self.len }
-        ensures { result ≡ read_at self.entry.len s }
+    pub(crate) fn differences(&self, s: usize) -> usize
+        requires { s < self.now.len }
+        ensures { result ≡ read_at self.now.len s }
     {
         2 * (self.len - s)
     }

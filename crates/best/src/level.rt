@@ -25,14 +25,14 @@ impl Level {
 
     // The level of these entries over that of their even half, whose best is h: 2h - 1 if h is not 0, then 2h; the first whose range isn't empty is taken,
     // else 2h + 1 without a trial.
-    pub(crate) fn over(self, entries: Entries<'_>) -> Self
-        requires more { 1 < entries.len }
-        requires within { 4 * self.best ≤ entries.len + 1 }
+    pub(crate) fn over(self, entries: &Entries<'_>) -> Self
+        requires more { 1 < entries.now.len }
+        requires within { 4 * self.best ≤ entries.now.len + 1 }
         requires cheap { self.count ≤ 100000 }
         ensures {
-            let m = entries.entry.len in
-            let x = x_of entries.entry in
-            let y = y_of entries.entry in
+            let m = entries.now.len in
+            let x = x_of entries.now in
+            let y = y_of entries.now in
             IsLevel m x y (from_half m x y self.best self.count) result
         }
     {
@@ -57,10 +57,10 @@ impl Level {
     }
 
     // The range at its best: from its trial, or read now.
-    pub(crate) fn range(self, entries: Entries<'_>) -> OffsetRange
-        requires inside { self.best < entries.len }
-        requires kept { IfSome self.range (λ g. g ≡ range_of entries.len (x_of entries) (y_of entries) self.best) }
-        ensures { result ≡ range_of entries.entry.len (x_of entries.entry) (y_of entries.entry) self.best }
+    pub(crate) fn range(self, entries: &Entries<'_>) -> OffsetRange
+        requires inside { self.best < entries.now.len }
+        requires kept { IfSome self.range (λ g. g ≡ range_of entries.now.len (x_of entries.now) (y_of entries.now) self.best) }
+        ensures { result ≡ range_of entries.now.len (x_of entries.now) (y_of entries.now) self.best }
     {
         match self.range {
             Some(range) => range,

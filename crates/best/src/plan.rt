@@ -51,10 +51,10 @@ fn halve(rows: Rows<'_>, ladder: &mut [usize]) -> Planned
     ensures { IsPlanned rows.entry.bottom.now rows.entry.top.now ladder.old ladder.new result }
 {
     let entries = Entries::whole(rows);
-    let level = climb(entries, ladder);
+    let level = climb(&entries, ladder);
     Planned {
         separation: tracks_for(level.best),
-        range: level.range(entries),
+        range: level.range(&entries),
         count: level.count,
     }
 }

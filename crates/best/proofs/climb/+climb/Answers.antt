@@ -6,11 +6,11 @@ use Rattle.best.proofs.Climbs.{one_halved, more_halved, over_next, by_evens}
 use Rattle.best.proofs.climb.+climb.Goals as goal
 
 pub set_rung-requires : goal.set_rung-requires
-set_rung-requires t c = omega (arith, c.requires, some_levels _ c.args.entries.strided.some)
+set_rung-requires t c = omega (arith, c.requires, some_levels _ c.args.entries.now.strided.some)
 
 pub returns-then-entries-le1 : goal.returns-then-entries-le1
 returns-then-entries-le1 t c =
-    let e = c.args.entries in
+    let e = c.args.entries.now in
     one_halved e.len (x_of e) (y_of e) c.args.ladder.now _ _ (omega (arith, e.strided.some)) c.set_rung.ensures refl
 
 pub slice_bounds-climb-count : goal.slice_bounds-climb-count
@@ -44,7 +44,7 @@ set_rung-requires-2 t c =
 
 pub returns : goal.returns
 returns t c =
-    let e = c.args.entries in
+    let e = c.args.entries.now in
     let q = c.even_half.ensures in
     let more = c.if-entries-le1.false in
     more_halved e.len (x_of e) (y_of e) more c.args.ladder.now _ c.climb-under.result (by_evens e c.even_half.result (q.of, q.step, q.len) c.climb-under.ensures)
