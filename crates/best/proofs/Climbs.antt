@@ -61,7 +61,7 @@ module _ (m : ℕ) (x y : ℕ → ℤ) (more : 1 < m) (l z : List ℕ) (u : Leve
 -- what e's even half came to, by the rule's name for it
 pub by_evens : (e o : Entries) → {l l' : List ℕ} {u : Level} → (o.rows ≡ e.rows) × (o.step ≡ 2 * e.step) × (o.len ≡ half e.len) → Halved o.len (x_of o) (y_of o) l l' u
     → Halved (half e.len) (evens (x_of e)) (evens (y_of e)) l l' u
-by_evens e o q h = rw (even_entries e.rows.bottom.now e.step, even_entries e.rows.top.now e.step) (rw (q.0, q.1, q.2) at h)
+by_evens e o q h = rw (even_entries e.rows.now.bottom.now e.step, even_entries e.rows.now.top.now e.step) (rw (q.0, q.1, q.2) at h)
 
 -- and what it says of the level over it
 pub over_next : {a b : List ℤ} {p m : ℕ} {l l' : List ℕ} {u : Level} → AcceptedRows a b → Strided (length a) p m

@@ -9,10 +9,10 @@ use jumper::rows::Rows;
 // Entry j of x is pad step j of the bottom row, less step j; that of y is the top row's.
 #[derive(Clone, Copy)]
 pub(crate) struct Entries<'a> {
-    pub(crate) rows: Rows<'a>,
+    pub(crate) rows: &'a Rows<'a>,
     pub(crate) step: usize,
     pub(crate) len: usize,
-    ghost strided: { Strided (length rows.bottom.now) step len },
+    ghost strided: { Strided (length rows.now.bottom.now) step len },
 }
 
 impl<'a> Entries<'a> {
@@ -22,10 +22,10 @@ impl<'a> Entries<'a> {
     ghost use Rattle.best.specs.Work.{x_of, y_of};
 
     // All of x and y.
-    pub(crate) fn whole(rows: Rows<'a>) -> Self
+    pub(crate) fn whole(rows: &'a Rows<'a>) -> Self
         ensures of { result.rows ≡ rows.entry }
         ensures step { result.step ≡ 1 }
-        ensures len { result.len ≡ length rows.entry.bottom.now }
+        ensures len { result.len ≡ length rows.now.bottom.now }
     {
         Entries {
             rows,
@@ -54,7 +54,7 @@ impl<'a> Entries<'a> {
         ensures { result ≡ range_of self.now.len (x_of self.now) (y_of self.now) s }
     {
         let gap = self.step * s;
-        let read = read(self.rows, self.step, gap, self.len - s);
+        let read = read(*self.rows, self.step, gap, self.len - s);
         let shift = gap as i32;
         OffsetRange {
             low: read.low + shift,

@@ -30,12 +30,12 @@ climb-under-requires t c =
 pub over-level-requires-clause-within : goal.over-level-requires-clause-within
 over-level-requires-clause-within t c =
     let e = c.even_half.result in
-    omega (arith, c.even_half.ensures.len, (over_next e.rows.accepted e.strided c.climb-under.ensures).0)
+    omega (arith, c.even_half.ensures.len, (over_next e.rows.now.accepted e.strided c.climb-under.ensures).0)
 
 pub over-level-requires-clause-cheap : goal.over-level-requires-clause-cheap
 over-level-requires-clause-cheap t c =
     let e = c.even_half.result in
-    omega (arith, e.strided.few, (over_next e.rows.accepted e.strided c.climb-under.ensures).1)
+    omega (arith, e.strided.few, (over_next e.rows.now.accepted e.strided c.climb-under.ensures).1)
 
 pub set_rung-requires-2 : goal.set_rung-requires-2
 set_rung-requires-2 t c =

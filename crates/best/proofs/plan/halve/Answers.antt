@@ -1,3 +1,4 @@
+use Rattle.std.proofs.Common.{ap}
 use Rattle.best.proofs.Plans.{best_inside, planned}
 use Rattle.best.proofs.plan.halve.Goals as goal
 
@@ -10,4 +11,4 @@ range-requires-clause-kept c = rw c.climb-level.ensures.level.best c.climb-level
 pub returns : goal.returns
 returns c =
     let e = c.whole-entries in
-    planned e.result _ _ _ c.climb-level.ensures c.args.rows c.range.result _ e.ensures.of e.ensures.step e.ensures.len c.range.ensures c.tracks_for.ensures
+    planned e.result _ _ _ c.climb-level.ensures c.args.rows.now c.range.result _ (ap (λ r. r.now) e.ensures.of) e.ensures.step e.ensures.len c.range.ensures c.tracks_for.ensures
