@@ -44,7 +44,7 @@ impl<'a> Entries<'a> {
         Entries {
             rows: self.rows,
             step: 2 * self.step,
-            len: (self.len + 1) / 2,
+            len: self.len.div_ceil(2),
         }
     }
 

@@ -83,11 +83,8 @@ pub(crate) fn count_levels(n: usize) -> usize
     requires { (1 ≤ n) × (n ≤ max_pairs) }
     ensures { result ≡ levels n }
 {
-    let mut m = n;
-    let mut count: usize = 1;
-    while 1 < m {
-        m = (m + 1) / 2;
-        count += 1;
+    if n <= 1 {
+        return 1;
     }
-    count
+    count_levels(n.div_ceil(2)) + 1
 }
