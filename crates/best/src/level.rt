@@ -1,5 +1,5 @@
-// One level of the halving: its best number from that of its even half, and its rung of the ladder.
-ghost use Rattle.std.specs.Prelude.{◌≡◌, IfSome, ◌∷◌, ◌+◌, ◌*◌, ◌≤◌, ◌<◌, length, drop};
+// One level of the halving: its best number from that of its even half.
+ghost use Rattle.std.specs.Prelude.{◌≡◌, IfSome, ◌+◌, ◌*◌, ◌≤◌, ◌<◌};
 ghost use Rattle.jumper.specs.Limits.{max_pairs};
 ghost use Rattle.jumper.specs.Span.{range_of};
 ghost use Rattle.best.specs.Halving.{levels, from_half};
@@ -67,15 +67,6 @@ impl Level {
             None => entries.range_at(self.best),
         }
     }
-}
-
-// A rung of the ladder: a level's size and its best number.
-pub(crate) fn set_rung(ladder: &mut [usize], size: usize, best: usize)
-    requires { 2 ≤ length ladder.old }
-    ensures { ladder.new ≡ size ∷ best ∷ drop 2 ladder.old }
-{
-    ladder[0] = size;
-    ladder[1] = best;
 }
 
 // How many levels there are from n pairs down to one.
