@@ -11,12 +11,12 @@ pub(crate) fn climb(entries: &Entries<'_>, ladder: &mut [usize]) -> Level
     requires { 2 * levels entries.now.len ≤ length ladder.old }
     ensures { Halved entries.now.len (x_of entries.now) (y_of entries.now) ladder.old ladder.new result }
 {
-    let (rung, below) = ladder.split_at_mut(2);
+    let (rung, below) = ladder.split_first_chunk_mut::<2>().unwrap();
     let level = if 1 < entries.len {
         climb(&entries.even_half(), below).over(entries)
     } else {
         Level::ONE_PAIR
     };
-    rung.copy_from_slice(&[entries.len, level.best]);
+    *rung = [entries.len, level.best];
     level
 }

@@ -5,14 +5,15 @@ use Rattle.best.proofs.Climbs.{one_halved, more_halved, over_next, by_evens}
 use Rattle.best.proofs.climb.+climb.Goals as goal
 use Rattle.best.proofs.climb.+climb.Goals.{then-entries-gt1, else-entries-gt1}
 
-pub split_at_mut-rung-requires : goal.split_at_mut-rung-requires
-split_at_mut-rung-requires t c = omega (arith, c.requires, some_levels _ c.args.entries.now.strided.some)
+pub unwrap-requires : goal.unwrap-requires
+unwrap-requires t c = c.split_first_chunk_mut.ensures.variant.1 (omega (arith, c.requires, some_levels _ c.args.entries.now.strided.some))
 
 pub climb-requires : goal.climb-requires
 climb-requires t c =
-    let m = more_levels _ c.if-entries-gt1.true in (
+    let m = more_levels _ c.if-entries-gt1.true in
+    let s = rw c.unwrap.ensures at c.split_first_chunk_mut.ensures.cases in (
       omega (arith, c.decreases, c.if-entries-gt1.true, c.even_half.ensures.len),
-      rw c.even_half.ensures.len (omega (arith, c.requires, m, c.split_at_mut-rung.ensures.back_len)),
+      rw c.even_half.ensures.len (omega (arith, c.requires, m, s.2)),
     )
 
 pub over-level-requires-clause-within : goal.over-level-requires-clause-within
@@ -29,13 +30,13 @@ pub returns : goal.returns
 returns t c =
     let e = c.args.entries.now in
     let l = c.args.ladder.now in
-    let s = c.split_at_mut-rung.ensures.back in
+    let s = rw c.unwrap.ensures at c.split_first_chunk_mut.ensures.cases in
     elim c.if-entries-gt1.branch [
     then-entries-gt1 w ↦
         let more = w.if-entries-gt1.true in
         let q = w.even_half.ensures in
-        rw (c.copy_from_slice.ensures.after, w.below-is, w.level-is)
-        (more_halved e.len (x_of e) (y_of e) more l _ w.climb.result (by_evens e w.even_half.result (q.of, q.step, q.len) (rw s at w.climb.ensures)) w.over-level.result w.over-level.ensures)
+        rw (w.below-is, w.level-is)
+        (more_halved e.len (x_of e) (y_of e) more l _ w.climb.result (by_evens e w.even_half.result (q.of, q.step, q.len) (rw s.1 at w.climb.ensures)) w.over-level.result w.over-level.ensures)
     | else-entries-gt1 w ↦
-        rw (c.copy_from_slice.ensures.after, w.below-is, w.level-is, s) (one_halved e.len (x_of e) (y_of e) l (omega (arith, w.if-entries-gt1.false, e.strided.some)))
+        rw (w.below-is, w.level-is, s.1) (one_halved e.len (x_of e) (y_of e) l (omega (arith, w.if-entries-gt1.false, e.strided.some)))
     ]
