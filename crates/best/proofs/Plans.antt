@@ -30,6 +30,6 @@ module _ (e : Entries) (l z : List ℕ) (u : Level) (h : Halved e.len (x_of e) (
       let hy : y_of e ≡ lean_of w.top.now = rw (p, q) (whole_entries w.top.now) in
       let h' : Halved (length w.bottom.now) (lean_of w.bottom.now) (lean_of w.top.now) l z u = rw (n, hx, hy) at h in
       let r' = er ∙ ap (λ (m : ℕ). range_of m (x_of e) (y_of e) u.best) n ∙ ap (λ (x : ℕ → ℤ). range_of (length w.bottom.now) x (y_of e) u.best) hx
-          ∙ ap (λ (y : ℕ → ℤ). range_of (length w.bottom.now) (lean_of w.bottom.now) y u.best) hy in
+      ∙ ap (λ (y : ℕ → ℤ). range_of (length w.bottom.now) (lean_of w.bottom.now) y u.best) hy in
       let s : t ≡ tracks_for u.best = et ∙ tracks_given u.best (omega (arith, best_inside, n, w.accepted.few)) in
       record { planned = rw (r', s, h'.level.best, h'.level.count); ladder = h'.ladder }

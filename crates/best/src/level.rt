@@ -29,12 +29,10 @@ impl Level {
         requires more { 1 < entries.now.len }
         requires within { 4 * self.best ≤ entries.now.len + 1 }
         requires cheap { self.count ≤ 100000 }
-        ensures {
-            let m = entries.now.len in
+        ensures { let m = entries.now.len in
             let x = x_of entries.now in
             let y = y_of entries.now in
-            IsLevel m x y (from_half m x y self.best self.count) result
-        }
+            IsLevel m x y (from_half m x y self.best self.count) result }
     {
         let even = 2 * self.best;
         let mut count = self.count;
@@ -57,7 +55,7 @@ impl Level {
     }
 
     // The range at its best: from its trial, or read now.
-    pub(crate) fn range(self, entries: &Entries<'_>) -> OffsetRange
+    pub(crate) fn kept_or_read(self, entries: &Entries<'_>) -> OffsetRange
         requires inside { self.best < entries.now.len }
         requires kept { IfSome self.range (λ g. g ≡ range_of entries.now.len (x_of entries.now) (y_of entries.now) self.best) }
         ensures { result ≡ range_of entries.now.len (x_of entries.now) (y_of entries.now) self.best }

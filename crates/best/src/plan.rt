@@ -54,7 +54,7 @@ fn halve(rows: &Rows<'_>, ladder: &mut [usize]) -> Planned
     let level = climb(&entries, ladder);
     Planned {
         separation: tracks_for(level.best),
-        range: level.range(&entries),
+        range: level.kept_or_read(&entries),
         count: level.count,
     }
 }

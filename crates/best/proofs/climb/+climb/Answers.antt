@@ -32,11 +32,11 @@ returns t c =
     let l = c.args.ladder.now in
     let s = rw c.unwrap.ensures at c.split_first_chunk_mut.ensures.cases in
     elim c.if-entries-gt1.branch [
-    then-entries-gt1 w ↦
-        let more = w.if-entries-gt1.true in
-        let q = w.even_half.ensures in
-        rw (w.below-is, w.level-is)
-        (more_halved e.len (x_of e) (y_of e) more l _ w.climb.result (by_evens e w.even_half.result (q.of, q.step, q.len) (rw s.1 at w.climb.ensures)) w.over-level.result w.over-level.ensures)
-    | else-entries-gt1 w ↦
-        rw (w.below-is, w.level-is, s.1) (one_halved e.len (x_of e) (y_of e) l (omega (arith, w.if-entries-gt1.false, e.strided.some)))
+      | then-entries-gt1 w ↦
+          let more = w.if-entries-gt1.true in
+          let q = w.even_half.ensures in
+          rw (w.below-is, w.level-is)
+          (more_halved e.len (x_of e) (y_of e) more l _ w.climb.result (by_evens e w.even_half.result (q.of, q.step, q.len) (rw s.1 at w.climb.ensures)) w.over-level.result w.over-level.ensures)
+      | else-entries-gt1 w ↦
+          rw (w.below-is, w.level-is, s.1) (one_halved e.len (x_of e) (y_of e) l (omega (arith, w.if-entries-gt1.false, e.strided.some)))
     ]
