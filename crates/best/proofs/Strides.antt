@@ -36,12 +36,12 @@ twice_times p j = mul_assoc 2 p j ∙ mul_left_comm 2 p j
 pub even_entries : (a : List ℤ) (p : ℕ) → evens (level_entries a p) ≡ level_entries a (2 * p)
 even_entries a p = fun_ext (λ j. rw (twice_times p j))
 
-pub even_strided : {n p m : ℕ} → 1 < m → Strided n p m → Strided n (2 * p) (half m)
-even_strided {n} {p} {m} more s =
+pub even_strided : {n p m k : ℕ} → 1 < m → m ≤ 2 * k → 2 * k ≤ m + 1 → Strided n p m → Strided n (2 * p) k
+even_strided {n} {p} {m} {k} more low high s =
     record {
       some = omega arith;
       few = omega (arith, s.few);
-      inside = omega (arith, s.inside, twice_times p (half m - 1), mul-le-mul_left {m = 2 * (half m - 1)} {n = m - 1} p (omega arith));
+      inside = omega (arith, s.inside, twice_times p (k - 1), mul-le-mul_left {m = 2 * (k - 1)} {n = m - 1} p (omega arith));
     }
 
 -- where there is more than one entry, the stride is below the number of pads

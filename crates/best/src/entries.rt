@@ -6,7 +6,8 @@ use crate::read::read;
 use jumper::range::OffsetRange;
 use jumper::rows::Rows;
 
-// Entry j of x is pad step j of the bottom row, less step j; that of y is the top row's.
+// Entry j of x is pad step j of the bottom row, less step j; that of y is the top row's. The rows are lent: the processor waits for what is written in four
+// parts and at once copied whole.
 #[derive(Clone, Copy)]
 pub(crate) struct Entries<'a> {
     pub(crate) rows: &'a Rows<'a>,
@@ -54,7 +55,7 @@ impl<'a> Entries<'a> {
         ensures { result ≡ range_of self.now.len (x_of self.now) (y_of self.now) s }
     {
         let gap = self.step * s;
-        let read = read(*self.rows, self.step, gap, self.len - s);
+        let read = read(self.rows, self.step, gap, self.len - s);
         let shift = gap as i32;
         OffsetRange {
             low: read.low + shift,
@@ -62,7 +63,8 @@ impl<'a> Entries<'a> {
         }
     }
 
-    // How many differences are read for the range at s: two for each entry that has one s further on.
+    // How many differences are read for the range at s: two for each entry that has one s further on. A counter beside the loop's own would halve the width
+    // at which it runs.
     pub(crate) fn differences(&self, s: usize) -> usize
         requires { s < self.now.len }
         ensures { result ≡ read_at self.now.len s }

@@ -68,6 +68,7 @@ impl Level {
 }
 
 // How many levels there are from n pairs down to one.
+#[tactic(auto, using(crate::proofs::Levels::no_more_levels, crate::proofs::Levels::level_up, crate::proofs::Levels::few_levels))]
 pub(crate) fn count_levels(n: usize) -> usize
     requires { (1 ≤ n) × (n ≤ max_pairs) }
     ensures { result ≡ levels n }
