@@ -169,11 +169,6 @@ pub record Seeking (a b : List ℤ) (d : ℤ) (s : ℕ) (witness : Option Misfit
   pub first : s ≡ 0 → witness ≡ None
   pub last : 0 < s → (m : Misfit) × ((misfit_of a b (s - 1) d ≡ Some m) × (witness ≡ Some m))
 
-pub seek_start : (a b : List ℤ) (d : ℤ) → Seeking a b d 0 None
-seek_start a b d =
-    let e : length a - 0 - 0 ≡ length a - 0 = omega arith in
-    record { below = omega arith; start = omega arith; here = rw e; first = λ h. refl; last = λ h. absurd (omega arith) }
-
 -- free pairs are passed over
 skip : (x y : ℕ → ℤ) (s : ℕ) (d : ℤ) (n j : ℕ) → ((k : ℕ) → k < j → (k + s < n) × Free x y s d k) → misfit_from x y s d 0 (n - s) ≡ misfit_from x y s d j (n - s - j)
 skip x y s d n zero f = let e : n - s - 0 ≡ n - s = omega arith in rw e
@@ -188,9 +183,6 @@ module _ (a b : List ℤ) (d : ℤ) (k : AcceptedShift a b d) (s : ℕ) (w : Opt
 
   sy : Steady (length a) (lean_of b)
   sy = rw k.rows.equal (lean_steady k.rows.top.rising)
-
-  pub seek_asked : Asked a b s d
-  seek_asked = record { rows = k.rows; tracks = omega (arith, c.below, k.rows.few); offset = k.offset }
 
   pub seek_next : (m : Misfit) → misfit_from (lean_of a) (lean_of b) s d (pair_of w) (length a - s - pair_of w) ≡ Some m
       → (s < length a) × Seeking a b d (s + 1) (Some m)
