@@ -1,3 +1,4 @@
+use Rattle.std.specs.Prelude.{Ok, Err}
 -- The frames 21: a wire that has come to its top pad's column, and what writing them leaves to write.
 use mathlib.Core.Path.{◌≡◌, refl, sym, ap, ◌∙◌}
 use mathlib.Core.Bool.{Bool, true, false, cond, true≢false}
@@ -25,8 +26,7 @@ use Rattle.jumper.specs.Rows.{checked_numbers}
 use Rattle.jumper.specs.Asked.{check_asked, Asked}
 use Rattle.jumper.specs.declared.refusal.Numbers.{Numbers}
 use Rattle.jumper.specs.declared.refusal.Refusal.{Refusal}
-use Rattle.jumper.specs.declared.rows.Checked.{Checked}
-use Rattle.jumper.specs.declared.rows.Checked.TheVariants.{Accepted, Refused}
+use Rattle.jumper.specs.Rows.{Checked}
 use Rattle.jumper.proofs.Accepted.{number_of, numbered}
 use Rattle.jumper.proofs.Checks.{asked_accepted}
 use Rattle.frame.specs.Written.{move_line}
@@ -213,12 +213,12 @@ wire_full l s e i W out out' t p g w = w ∙ ap (λ (y : List ℕ). take p y ++ 
 
 -- ---- rows that are accepted, and rows that are not
 module _ (l s : ℕ) (d : ℤ) (a b : List ℤ) (i t : ℕ) (out : List ℕ) (from : ℕ) (q : Checked) (e : q ≡ check_asked a b s d) where
-  pub asked_route : (i' t' to : ℕ) (out' : List ℕ) → q ≡ Accepted → RouteOut l s d a b i t out from i' t' to out' → MovesOut l s d a b i t out from i' t' to out'
+  pub asked_route : (i' t' to : ℕ) (out' : List ℕ) → q ≡ Ok tt → RouteOut l s d a b i t out from i' t' to out' → MovesOut l s d a b i t out from i' t' to out'
   asked_route i' t' to out' z r =
       let y : is_asked a b s d ≡ true = eq-eqb _ _ (number_of (check_asked a b s d) (sym e ∙ z)) in
       record { gave = simp y r.gave; fits = r.fits; far = r.far }
 
-  pub unasked_route : (f : Refusal) → q ≡ Refused f → MovesOut l s d a b i t out from (length a) 0 from out
+  pub unasked_route : (f : Refusal) → q ≡ Err f → MovesOut l s d a b i t out from (length a) 0 from out
   unasked_route f z =
       let w : checked_numbers (check_asked a b s d) ≡ refusal_numbers f = ap checked_numbers (sym e ∙ z) in
       let y : is_asked a b s d ≡ false = ne_eqb _ _ (λ h. numbered f (ap (λ (k : Numbers). k.refusal) (sym w) ∙ h)) in
