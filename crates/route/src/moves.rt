@@ -30,7 +30,7 @@ pub fn give_moves(
     ensures { MovesOut line s d a.now b.now wire track out.old at result.wire result.track result.at out.new }
 {
     match Question::check(a, b, s, d) {
-        Ok(asked) => Moves { line, asked }.give(wire, track, Writer { out, at }),
+        Ok(asked) => Moves { line, asked }.give(wire, track, &mut Writer { out, at }),
         Err(_) => Reached {
             wire: a.len(),
             track: 0,
@@ -40,6 +40,7 @@ pub fn give_moves(
 }
 
 // A buffer that frames are written into, and the place after the last one.
+#[derive(Drop)]
 struct Writer<'a> {
     out: &'a mut [u8],
     at: usize,
@@ -72,13 +73,14 @@ struct Moves<'a> {
 
 impl Moves<'_> {
     // The wires from `wire` and its `track` on.
-    fn give(self, wire: usize, track: usize, mut writer: Writer<'_>) -> Reached
-        ensures { RouteOut self.entry.line self.entry.asked.separation self.entry.asked.offset self.entry.asked.rows.bottom.now self.entry.asked.rows.top.now wire track writer.entry.out.now writer.entry.at result.wire result.track result.at writer.exit.0.now }
+    fn give(self, wire: usize, track: usize, writer: &mut Writer<'_>) -> Reached
+        ensures same { (writer.new.out.ghost_name ≡ writer.old.out.ghost_name) × (length writer.new.out.now ≡ length writer.old.out.now) }
+        ensures wrote { RouteOut self.entry.line self.entry.asked.separation self.entry.asked.offset self.entry.asked.rows.bottom.now self.entry.asked.rows.top.now wire track writer.old.out.now writer.old.at result.wire result.track result.at writer.new.out.now }
     {
         let n = self.asked.rows.bottom.len();
         let mut next = track;
         for i in wire..n {
-            if let Some(track) = self.give_wire(i, next, &mut writer) {
+            if let Some(track) = self.give_wire(i, next, writer) {
                 return Reached {
                     wire: i,
                     track,
