@@ -2,7 +2,6 @@ use Rattle.std.specs.Prelude.{Ok, Err, Option, Some, None}
 -- WHAT THE CALLS PROMISE, from what their parts find; and the laws that join them: drawing all is drawing each, and what is drawn is accepted.
 -- Sections: the same wires; the checker; an answer of fit; one wire; all wires; the laws that join them.
 use mathlib.Core.Path.{◌≡◌, refl, sym, ap, ◌∙◌}
-use mathlib.Core.Bool.{true, false, true≢false}
 use mathlib.Core.List.{List}
 use mathlib.Core.Logic.{◌⊎◌, inl, inr, ◌↔◌}
 use Prim.Native.Nat.{ℕ, zero, suc, ◌+◌, ◌*◌, ◌≤◌, ◌<◌}

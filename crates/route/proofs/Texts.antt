@@ -29,7 +29,6 @@ use Rattle.jumper.specs.Rows.{checked_numbers}
 use Rattle.jumper.specs.Asked.{check_asked, Asked}
 use Rattle.jumper.specs.declared.refusal.Numbers.{Numbers}
 use Rattle.jumper.specs.declared.refusal.Refusal.{Refusal}
-use Rattle.jumper.specs.Rows.{Checked}
 use Rattle.jumper.proofs.Accepted.{number_of, numbered}
 use Rattle.jumper.proofs.Checks.{asked_accepted}
 use Rattle.frame.specs.Written.{move_line}

@@ -1,12 +1,12 @@
 -- The columns of one wire, 01's, where a pad holds it and where none does; and the wire in a buffer.
-use mathlib.Core.Path.{◌≡◌, refl, sym, ap, ◌∙◌}
+use mathlib.Core.Path.{◌≡◌, sym, ap, ◌∙◌}
 use mathlib.Core.Bool.{true, false}
 use mathlib.Core.Logic.{⊎_elim}
 use mathlib.Core.List.{List, [], ◌∷◌, ◌++◌}
 use Prim.Native.Nat.{ℕ, zero, suc, ◌+◌, ◌-◌, ◌≤◌, ◌<◌}
 use native.Mathlib.Omega.{arith}
 use borrow.Author.Tests.{lt-ltb, le-ltb}
-use lib.ListN.{length, get_or, take, drop, set}
+use lib.ListN.{length, drop, set}
 use borrow.Rule.Slice.PartMut.{put_mid}
 use Rattle.std.proofs.lemmas.List.{get_or_append_left, drop_at, length-append}
 use native.Mathlib.Numerals.{add-one}
@@ -21,9 +21,8 @@ use Rattle.whole.proofs.Order.{true_lt, false_lt, larger_is, smaller_is}
 use Rattle.wiring.specs.Wiring.{pad, top_pad}
 use Rattle.wiring.specs.Drawing.{rightward, leftward, entry}
 use Rattle.wiring.proofs.Drawing.{column_first, column_next}
-use Rattle.route.specs.Table.{columns}
 use Rattle.route.specs.Draw.{drawn_of, wire_drawn}
-use Rattle.route.proofs.Places.{columns_same, columns_first}
+use Rattle.route.proofs.Places.{columns_first}
 
 module _ (n : ℕ) (a : ℕ → ℤ) (c : ℤ) (i t : ℕ) where
   pub rightward_held : i + t < n → rightward n a c i t ≡ int_min c (a (i + t) -ℤ pos t)

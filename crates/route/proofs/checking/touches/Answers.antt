@@ -1,4 +1,4 @@
-use Rattle.std.proofs.Common.{rules, arith, ◌≡◌, ◌+◌, FitsSigned, w32}
+use Rattle.std.proofs.Common.{rules, arith, ◌+◌, FitsSigned, w32}
 use Rattle.std.proofs.lemmas.Int.{to_z-of_z}
 use Rattle.wiring.specs.Wiring.{pad}
 use Rattle.route.proofs.Quick.{runs_more}

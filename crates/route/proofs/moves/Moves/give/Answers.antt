@@ -1,4 +1,4 @@
-use Rattle.std.proofs.Common.{arith, ap, sym, ◌∙◌, ◌++◌, ℕ, List, length, take, None, ◌≡◌}
+use Rattle.std.proofs.Common.{arith, ap, sym, ◌∙◌, ◌++◌, ℕ, List, length, take}
 use Rattle.route.proofs.Texts.{route_more, route_stop, route_end}
 use Rattle.route.proofs.moves.Moves.give.Goals as goal
 

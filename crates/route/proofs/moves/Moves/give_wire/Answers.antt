@@ -1,4 +1,4 @@
-use Rattle.std.proofs.Common.{rules, arith, sym, ap, ◌∙◌, ◌++◌, ◌+◌, ◌-◌, ◌≡◌, ℕ, ℤ, List, length, take, refl, FitsSigned, w32, to_z}
+use Rattle.std.proofs.Common.{rules, arith, sym, ap, ◌∙◌, ◌++◌, ◌-◌, ℕ, List, length, take, refl, FitsSigned, w32, to_z}
 use Rattle.std.proofs.lemmas.Int.{to_z-of_z}
 use Rattle.wiring.specs.Wiring.{pad, top_pad}
 use Rattle.wiring.specs.Drawing.{drawn}
