@@ -2,7 +2,7 @@
 use mathlib.Core.Path.{◌≡◌, sym, ◌∙◌, fun_ext}
 use mathlib.Core.List.{List}
 use Prim.Native.Nat.{ℕ, ◌+◌, ◌-◌, ◌*◌, ◌≤◌, ◌<◌, ◌^◌}
-use native.Mathlib.Nat.{one-mul, mul-add, mul_assoc, mul_left_comm, mul-le-mul_left, le-mul_of_pos_right}
+use native.Mathlib.Nat.{one-mul, mul-add, mul_assoc, mul_left_comm, mul-le-mul_left}
 use native.Mathlib.Omega.{arith}
 use lib.ListN.{length}
 use lib.IntN.{ℤ, pos, neg_ℤ, ◌+ℤ◌, ◌-ℤ◌, nat_abs}
@@ -12,15 +12,14 @@ use Rattle.whole.proofs.Arith.{arithℤ, dif, sum}
 use Rattle.whole.proofs.Machine.{abs_sum, abs_dif, fits32}
 use Rattle.whole.proofs.Extremes.{largest_further, smallest_further}
 use Rattle.wiring.specs.Wiring.{pad}
-use Rattle.wiring.specs.Fit.{lean_of, Rising, Steady, low_end, high_end, evens, half}
+use Rattle.wiring.specs.Fit.{lean_of, Rising, Steady, low_end, high_end, evens}
 use Rattle.wiring.proofs.Rule.{lean_steady}
-use Rattle.jumper.specs.Limits.{max_pairs}
 use Rattle.jumper.specs.Rows.{AcceptedRows}
 use Rattle.jumper.specs.Span.{range_of}
 use Rattle.jumper.specs.declared.range.OffsetRange.{OffsetRange}
 use Rattle.jumper.proofs.Accepted.{near}
 use Rattle.best.specs.Strides.{Strided}
-use Rattle.best.specs.Work.{level_entries, low_read, high_read, read_of, Readable}
+use Rattle.best.specs.Work.{level_entries, low_read, high_read, read_of}
 
 -- at stride 1 they are x and y
 pub whole_entries : (a : List ℤ) → level_entries a 1 ≡ lean_of a

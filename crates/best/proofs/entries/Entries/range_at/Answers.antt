@@ -1,4 +1,4 @@
-use Rattle.std.proofs.Common.{◌*◌, ◌<◌, ◌^◌, pos, ◌+ℤ◌, ◌-ℤ◌, arith, rules, w32}
+use Rattle.std.proofs.Common.{◌*◌, pos, ◌+ℤ◌, ◌-ℤ◌, arith, rules, w32}
 use mir.Val.{SFits}
 use Rattle.std.proofs.lemmas.Int.{to_z-of_z, to_z_pos}
 use Rattle.whole.proofs.Machine.{back}
