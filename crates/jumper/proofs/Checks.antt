@@ -1,7 +1,7 @@
 -- The checks 1 to 7 let through exactly what is accepted; and a check after another, by the first one's answer.
 use Rattle.std.specs.Prelude.{Result, Ok, Err, IsErrAnd}
 use Rattle.std.proofs.lemmas.Result.{err_from_is_err_and}
-use mathlib.Core.Path.{◌≡◌, sym, ap, ◌∙◌}
+use mathlib.Core.Path.{◌≡◌, ap, ◌∙◌}
 use mathlib.Core.Bool.{Bool, true, false}
 use mathlib.Core.List.{List, [], ◌∷◌}
 use Prim.Native.Nat.{ℕ, ◌+◌, ◌≤◌}
@@ -15,22 +15,15 @@ use Rattle.whole.proofs.Order.{false_lt, lt_false}
 use Rattle.jumper.specs.Limits.{max_pairs, first_column, last_column, max_tracks, lowest_offset, highest_offset, AcceptedOffset}
 use Rattle.jumper.specs.Refusals.{refusal_numbers}
 use Rattle.jumper.specs.Rows.{pick, or_else, fault_after, row_fault, check_rows}
-use Rattle.jumper.specs.Asked.{tracks_fault, offset_fault, check_tracks, check_offset, check_asked, AcceptedTracks, AcceptedShift, Asked, TracksCheck, OffsetCheck, AskedCheck}
+use Rattle.jumper.specs.Asked.{tracks_fault, offset_fault, check_tracks, check_offset, check_asked, AcceptedTracks, AcceptedShift, Asked}
 use Rattle.jumper.specs.declared.refusal.Refusal.{Refusal}
 use Rattle.jumper.specs.declared.refusal.Refusal.TheVariants.{Unequal, Empty, Long, Column, Order, Tracks, Offset}
 use Rattle.jumper.specs.Rows.{Checked}
-use Rattle.jumper.proofs.Accepted.{accepted_of, number_of, second, both, rows_of, of_rows}
+use Rattle.jumper.proofs.Accepted.{second, both, rows_of, of_rows}
 
 -- A refusal that `?` hands on: the answer is refused, and by the same refusal.
 pub passed_on : {A : Type 0} {f : Refusal} (q : Result A Refusal) → IsErrAnd q (λ e. e ≡ f) → q ≡ Err f
 passed_on q h = let p = err_from_is_err_and q h in p.1 ∙ ap Err p.2
-
--- a check after another, as the code goes
-pub or_second : (r s q : Checked) → r ≡ (Ok tt) → q ≡ s → q ≡ or_else r s
-or_second r s q e h = h ∙ rw e
-
-pub or_first : (r s : Checked) (f : Refusal) → r ≡ Err f → Err f ≡ or_else r s
-or_first r s f e = rw e
 
 tracks_of : (s : ℕ) → tracks_fault s ≡ (Ok tt) → s ≤ max_tracks
 tracks_of s e = ltb-false max_tracks s (second (ltb max_tracks s) Tracks (Ok tt) e).0
@@ -67,15 +60,6 @@ shift_accepted a b d t = rw (of_rows a b t.rows) (of_offset d t.offset)
 
 pub asked_accepted : (a b : List ℤ) (s : ℕ) (d : ℤ) → Asked a b s d → check_asked a b s d ≡ (Ok tt)
 asked_accepted a b s d t = rw (tracks_accepted a b s (record { rows = t.rows; tracks = t.tracks })) (of_offset d t.offset)
-
-pub tracks_check : (a b : List ℤ) (s : ℕ) (r : Checked) → r ≡ check_tracks a b s → TracksCheck a b s r
-tracks_check a b s r e = record { answer = e; accepts = ((λ n. accepted_tracks a b s (sym e ∙ accepted_of r n)), (λ t. number_of r (e ∙ tracks_accepted a b s t))) }
-
-pub offset_check : (a b : List ℤ) (d : ℤ) (r : Checked) → r ≡ check_offset a b d → OffsetCheck a b d r
-offset_check a b d r e = record { answer = e; accepts = ((λ n. accepted_shift a b d (sym e ∙ accepted_of r n)), (λ t. number_of r (e ∙ shift_accepted a b d t))) }
-
-pub asked_check : (a b : List ℤ) (s : ℕ) (d : ℤ) (r : Checked) → r ≡ check_asked a b s d → AskedCheck a b s d r
-asked_check a b s d r e = record { answer = e; accepts = ((λ n. accepted_asked a b s d (sym e ∙ accepted_of r n)), (λ t. number_of r (e ∙ asked_accepted a b s d t))) }
 
 -- the checks refuse with their own numbers only: at most 5, 6 and 7
 abbrev pub Early : ℕ → Checked → Type 0

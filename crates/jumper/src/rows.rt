@@ -8,63 +8,71 @@ ghost use Rattle.jumper.specs.Rows.{AcceptedRow, AcceptedRows, row_fault, check_
 use crate::limits::{FIRST_COLUMN, LAST_COLUMN, MAX_PAIRS};
 use crate::refusal::Refusal;
 
-// How many columns aren't below the next one. There is no early exit, so many columns are compared at a time: most rows are sound, and this pass
-// is all they cost. Those that are below it are counted, since "below" is what vector code can compare.
-fn falls(a: &[i32]) -> u32
-    requires { (0 < length a.now) × (length a.now ≤ max_pairs) }
-    ensures { result ≡ 0 → Rising (length a.now) (pad a.now) }
-{
-    let last = a.len() - 1;
-    let mut rises: u32 = 0;
-    for i in 0..last {
-        if a[i] < a[i + 1] {
-            rises += 1;
-        }
-    }
-    last as u32 - rises
+// A row that is to be checked, neither empty nor too long, and the place of its first column.
+#[derive(Clone, Copy)]
+struct Row<'a> {
+    pads: &'a [i32],
+    place: usize,
+    ghost some: { 0 < length pads.now },
+    ghost few: { length pads.now ≤ max_pairs },
+    ghost placed: { place ≤ max_pairs },
 }
 
-// Whether a row rises from an accepted column to an accepted column.
-#[tactic(auto, using(crate::proofs::Accepted::sound_row, whole::proofs::Order::false_lt))]
-fn is_faultless(a: &[i32]) -> bool
-    requires { (0 < length a.now) × (length a.now ≤ max_pairs) }
-    ensures { result ≡ true → AcceptedRow a.now }
-{
-    falls(a) == 0 && FIRST_COLUMN <= a[0] && a[a.len() - 1] <= LAST_COLUMN
-}
-
-// The search for the first fault of a row whose first column has the place `base`. `before` begins one left of the first column and is in range from then on;
-// so a column above it isn't left of the first, and a sound column costs two comparisons.
-fn seek_fault(a: &[i32], base: usize) -> Result<(), Refusal>
-    requires { (base ≤ max_pairs) × (length a.now ≤ max_pairs) }
-    ensures { result ≡ row_fault base a.now }
-{
-    let mut before: i32 = FIRST_COLUMN - 1;
-    for (i, &x) in a.iter().enumerate() {
-        if LAST_COLUMN < x {
-            return Err(Refusal::Column(base + i));
-        }
-        if x <= before {
-            if x < FIRST_COLUMN {
-                return Err(Refusal::Column(base + i));
+impl<'a> Row<'a> {
+    // Whether each column is below the next one. There is no early exit, so many columns are compared at a time: most rows are sound, and this pass
+    // is all they cost. Those that are below the next are counted, since "below" is what vector code can compare.
+    fn rises(&self) -> bool
+        ensures { result ≡ true → Rising (length self.now.pads.now) (pad self.now.pads.now) }
+    {
+        let last = self.pads.len() - 1;
+        let mut rises: u32 = 0;
+        for i in 0..last {
+            if self.pads[i] < self.pads[i + 1] {
+                rises += 1;
             }
-            return Err(Refusal::Order(base + i));
         }
-        before = x;
+        rises == last as u32
     }
-    Ok(())
-}
 
-// The first fault of a row: none if it is sound, else it is sought.
-#[tactic(auto, using(crate::proofs::Accepted::of_row_fault))]
-fn row_fault(a: &[i32], base: usize) -> Result<(), Refusal>
-    requires { (base ≤ max_pairs) × (0 < length a.now) × (length a.now ≤ max_pairs) }
-    ensures { result ≡ row_fault base a.now }
-{
-    if is_faultless(a) {
-        return Ok(());
+    // Whether the row rises from an accepted column to an accepted column.
+    fn is_faultless(&self) -> bool
+        ensures { result ≡ true → AcceptedRow self.now.pads.now }
+    {
+        let last = self.pads.len() - 1;
+        self.rises() && FIRST_COLUMN <= self.pads[0] && self.pads[last] <= LAST_COLUMN
     }
-    seek_fault(a, base)
+
+    // The search for the first fault. `before` begins one left of the first column and is in range from then on; so a column above it isn't left of the first,
+    // and a sound column costs two comparisons.
+    fn seek_fault(&self) -> Result<(), Refusal>
+        ensures { result ≡ row_fault self.now.place self.now.pads.now }
+    {
+        let mut before: i32 = FIRST_COLUMN - 1;
+        for (i, &x) in self.pads.iter().enumerate() {
+            if LAST_COLUMN < x {
+                return Err(Refusal::Column(self.place + i));
+            }
+            if x <= before {
+                if x < FIRST_COLUMN {
+                    return Err(Refusal::Column(self.place + i));
+                }
+                return Err(Refusal::Order(self.place + i));
+            }
+            before = x;
+        }
+        Ok(())
+    }
+
+    // The first fault: none if the row is sound, else it is sought.
+    #[tactic(auto, using(crate::proofs::Accepted::of_row_fault))]
+    fn fault(&self) -> Result<(), Refusal>
+        ensures { result ≡ row_fault self.now.place self.now.pads.now }
+    {
+        if self.is_faultless() {
+            return Ok(());
+        }
+        self.seek_fault()
+    }
 }
 
 // Both rows: UNEQUAL, EMPTY, LONG, then the first fault of the bottom row, then of the top row.
@@ -82,8 +90,10 @@ pub fn check_rows(a: &[i32], b: &[i32]) -> Result<(), Refusal>
     if MAX_PAIRS < n {
         return Err(Refusal::Long);
     }
-    row_fault(a, 0)?;
-    row_fault(b, n)
+    let bottom = Row { pads: a, place: 0 };
+    let top = Row { pads: b, place: n };
+    bottom.fault()?;
+    top.fault()
 }
 
 // Two rows that are accepted, which only `check` makes: what takes them needn't ask again.
