@@ -17,12 +17,8 @@ pub(crate) fn take_text(
     ensures { Reacted s a.old b.old (text_frame text.now) result a.new b.new }
 {
     let t = on_text(text, a, b, s.machine);
-    let did = t.did;
-    match did {
+    match t.did {
         Did::Completed(o) => done(t, o, plan_first(a, b, o.pairs, o.separation, o.offset)),
-        Did::Opened => on_step(t),
-        Did::Filled => on_step(t),
-        Did::Refused(_, _) => on_step(t),
-        Did::Passed => on_step(t),
+        _ => on_step(t),
     }
 }

@@ -5,4 +5,4 @@ use Rattle.sheet.proofs.state.fresh.Goals as goal
 
 pub returns : goal.returns
 unfolding pending left_text
-returns c = fresh_owes _ refl c.fresh-machine.ensures (λ a b. refl)
+returns c = fresh_owes _ refl c.fresh.ensures (λ a b. refl)
