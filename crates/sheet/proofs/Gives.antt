@@ -92,3 +92,6 @@ module _ (s : State) (a b : List ℤ) (k : Option Answer) (cut : due_text k ≡ 
 
 pub wide : (r : Route) → 2048 < r.wires → has_wires (Some r) ≡ false
 wide r h = simp (lt-leb _ _ h)
+
+pub given_idle : (s : State) (a b : List ℤ) (out : List ℕ) (at : ℕ) → is_busy s ≡ false → Given s a b out at s at out
+given_idle s a b out at idle = record { gave = refl; same = (λ line rest. refl); fits = (λ h. h); far = λ h. absurd (true≢false (sym h ∙ idle)) }

@@ -69,11 +69,13 @@ pub fn feed(
     let mut used = 0;
     let mut n = at;
     while used < piece.len() {
-        let g = give(a, b, st, out, n);
-        st = g.s;
-        n = g.n;
         if busy(st) {
-            break;
+            let g = give(a, b, st, out, n);
+            st = g.s;
+            n = g.n;
+            if busy(st) {
+                break;
+            }
         }
         used += take_line(line, a, b, &mut st, &piece[used..]);
     }

@@ -1,24 +1,32 @@
 use Rattle.std.proofs.Common.{sym, ◌∙◌, arith, ◌++◌, drop}
+use Rattle.sheet.specs.Owes.{Given}
+use Rattle.sheet.proofs.Gives.{given_idle}
 use Rattle.sheet.proofs.Feeds.{gave_on, part, used_within, fed_more}
 use Rattle.sheet.proofs.feed.feed.Goals as goal
+use Rattle.sheet.proofs.feed.feed.Goals.{then-busy+else-busy-2, else-busy}
 
 pub loop-used-preserved : goal.loop-used-preserved
 loop-used-preserved c =
     let P = c.args.piece.now in
     let inv = c.loop-used.invariant in
+    let given : Given c.loop-used.st c.loop-used.a c.loop-used.b c.loop-used.out c.loop-used.n c.if-busy.st c.if-busy.n c.if-busy.out =
+    elim c.if-busy.branch [
+      then-busy+else-busy-2 w ↦ rw (w.out-is, w.st-is, w.n-is) w.give-g.ensures
+    | else-busy w ↦ rw (w.out-is, w.st-is, w.n-is) (given_idle _ _ _ _ _ (sym c.busy.ensures.answer ∙ w.if-busy.false))
+    ] in
     record {
       within = used_within P _ _ (part P _ inv.within) _ inv.within c.take_line-used.ensures.within;
-      room = c.give-g.auto.out ∙ inv.room;
-      owed = fed_more P _ _ (part P _ inv.within) _ _ _ _ _ _ _ _ _ _ _ _ _ _ _ inv.owed c.give-g.ensures c.take_line-used.ensures;
-      fits = λ h. let y = inv.fits h in let z = c.give-g.ensures.fits (omega arith) in omega arith;
+      room = c.if-busy.auto.out ∙ inv.room;
+      owed = fed_more P _ _ (part P _ inv.within) _ _ _ _ _ _ _ _ _ _ _ _ _ _ _ inv.owed given c.take_line-used.ensures;
+      fits = λ h. let y = inv.fits h in let z = given.fits (omega arith) in omega arith;
     }
 
-pub returns-then-busy : goal.returns-then-busy
-returns-then-busy c =
+pub returns-then-busy-2 : goal.returns-then-busy-2
+returns-then-busy-2 c =
     let inv = c.loop-used.invariant in
     record {
       owed = (λ rest. inv.owed rest ∙ gave_on _ _ _ _ _ _ _ _ _ c.give-g.ensures (drop c.loop-used.used c.args.piece.now ++ rest));
       within = inv.within;
       fits = (λ h. let y = inv.fits h in let z = c.give-g.ensures.fits (omega arith) in omega arith);
-      far = λ h. let z = c.give-g.ensures.far (sym c.busy.ensures.answer ∙ c.if-busy.true) in omega arith;
+      far = λ h. let z = c.give-g.ensures.far (sym c.busy-then-busy.ensures.answer ∙ c.if-busy-2.true) in omega arith;
     }
