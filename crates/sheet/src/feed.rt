@@ -4,7 +4,7 @@ ghost use Rattle.sheet.specs.Owes.{Fed, Finished, is_busy};
 ghost use Rattle.sheet.specs.Parts.{Kept, TakenIn};
 
 use crate::give::give;
-use crate::state::{State, busy, on_step};
+use crate::state::{State, busy};
 use crate::step::take_text;
 use events::step::{on_end, on_rest};
 use jumper::limits::MAX_PAIRS;
@@ -45,10 +45,10 @@ fn take_line(
         return piece.len();
     };
     if s.at == 0 {
-        *s = take_text(&piece[..n], a, b, *s);
+        take_text(&piece[..n], a, b, s);
     } else {
         let k = keep(line, s.at, &piece[..n]);
-        *s = take_text(&line[..k], a, b, *s);
+        take_text(&line[..k], a, b, s);
     }
     n + 1
 }
@@ -89,8 +89,12 @@ pub fn finish(line: &[u8; 160], s: State) -> State
     if busy(s) {
         return s;
     }
-    if s.at == 0 {
-        return on_step(on_end(s.machine));
-    }
-    on_step(on_rest(s.machine))
+    let t = if s.at == 0 {
+        on_end(s.machine)
+    } else {
+        on_rest(s.machine)
+    };
+    let mut r = s;
+    r.take_step(t);
+    r
 }

@@ -47,19 +47,6 @@ pub fn fresh() -> State
     }
 }
 
-// After a step: the 20 of a line that it cut off, a 20 and a route.
-fn owe(t: Step, due: Option<Answer>, route: Option<Route>) -> State
-    ensures { result ≡ owing t due route }
-{
-    State {
-        at: 0,
-        machine: t.machine,
-        cut: if t.cut { Some(t.former) } else { None },
-        due,
-        route,
-    }
-}
-
 // The 20 of a line.
 pub(crate) fn show(line: u8, k: Numbers) -> Answer
     ensures { result ≡ shown line k }
@@ -75,33 +62,46 @@ pub(crate) fn show(line: u8, k: Numbers) -> Answer
     }
 }
 
-// What a step calls for that completes no line.
-pub(crate) fn on_step(t: Step) -> State
-    ensures { result ≡ after t t.did }
-{
-    match t.did {
-        Did::Refused(line, r) => owe(t, Some(show(line, r.numbers())), None),
-        Did::Opened | Did::Filled | Did::Completed(_) | Did::Passed => owe(t, None, None),
+impl State {
+    // After a step: the 20 of a line that it cut off is to be written, a 20 and a route.
+    fn owe(&mut self, t: Step, due: Option<Answer>, route: Option<Route>)
+        ensures { self.new ≡ owing t due route }
+    {
+        self.at = 0;
+        self.machine = t.machine;
+        self.cut = if t.cut { Some(t.former) } else { None };
+        self.due = due;
+        self.route = route;
     }
-}
 
-// What a complete line is answered: its 20, and its route if it isn't refused.
-pub(crate) fn done(t: Step, o: Order, k: Numbers) -> State
-    ensures { result ≡ complete t o k }
-{
-    let route = Route {
-        line: o.line,
-        separation: k.separation,
-        offset: k.lowest,
-        wires: o.pairs,
-        wire: 0,
-        track: 0,
-    };
-    owe(
-        t,
-        Some(show(o.line, k)),
-        (k.refusal == 0).then_some(route),
-    )
+    // What a step calls for that completes no line.
+    pub(crate) fn take_step(&mut self, t: Step)
+        ensures { self.new ≡ after t t.did }
+    {
+        match t.did {
+            Did::Refused(line, r) => self.owe(t, Some(show(line, r.numbers())), None),
+            Did::Opened | Did::Filled | Did::Completed(_) | Did::Passed => self.owe(t, None, None),
+        }
+    }
+
+    // What a complete line is answered: its 20, and its route if it isn't refused.
+    pub(crate) fn complete(&mut self, t: Step, o: Order, k: Numbers)
+        ensures { self.new ≡ complete t o k }
+    {
+        let route = Route {
+            line: o.line,
+            separation: k.separation,
+            offset: k.lowest,
+            wires: o.pairs,
+            wire: 0,
+            track: 0,
+        };
+        self.owe(
+            t,
+            Some(show(o.line, k)),
+            (k.refusal == 0).then_some(route),
+        );
+    }
 }
 
 // Whether anything may be left to write. If not, nothing is owed but what the rest of the sheet brings.

@@ -6,7 +6,7 @@ use Rattle.sheet.proofs.step.take_text.Goals as goal
 pub returns-in-Completed : goal.returns-in-Completed
 returns-in-Completed c =
     let e = to_z-of_z w32 c.in-Completed.o.offset (search rules) in
-    completes_reacted c.args.s _ _ _ _ _ _ c.on_text-t.ensures _ _ _ c.in-Completed.is (rw e at c.plan_first.ensures) c.done.ensures
+    completes_reacted c.args.s.now _ _ _ _ _ _ c.on_text-t.ensures _ _ _ c.in-Completed.is (rw e at c.plan_first.ensures) c.complete.ensures
 
 pub returns-in_default : goal.returns-in_default
-returns-in_default c = plain_reacted c.args.s _ _ _ _ _ _ c.on_text-t.ensures _ c.in_default.not-Completed c.on_step.ensures
+returns-in_default c = plain_reacted c.args.s.now _ _ _ _ _ _ c.on_text-t.ensures _ c.in_default.not-Completed c.take_step.ensures
