@@ -1,5 +1,6 @@
 -- Lines, texts and frames: what keeping the bytes of a line comes to.
-use Rattle.std.proofs.Common.{min}
+use Rattle.std.proofs.Common.{min, None, Some}
+use Rattle.memchr.specs.Find.{IsFirstByte, is_byte}
 use mathlib.Core.Path.{◌≡◌, refl, sym, ap, ◌∙◌}
 use mathlib.Core.Bool.{true, false}
 use mathlib.Core.Logic.{◌⊎◌, ⊎_elim}
@@ -10,7 +11,7 @@ use native.Mathlib.Omega.{arith}
 use lib.Dec.{eqb, leb}
 use lib.ListN.{length, get_or, drop, take, set, length-set, length-append, length-drop, take-append-drop, drop_of_length-le}
 use lib.Seq.{drop-cons, take-suc-set, take_all, drop-drop, get_or-take, get_or-drop, length-take-le}
-use borrow.Author.Tests.{eq-eqb, ne_eqb, eqb-false, leb-true, leb-false}
+use borrow.Author.Tests.{eq-eqb, eqb-true, ne_eqb, eqb-false, leb-true, leb-false}
 use Rattle.frame.specs.Frame.{Frame, text_frame, is_fed, frame_of}
 use Rattle.frame.proofs.Scan.{either, below_or}
 use Rattle.frame.proofs.Frames.{long_bad, fed_frame, fed_last, unfed_bad}
@@ -92,15 +93,21 @@ kept line bytes line' at m n l l' em en e =
 
 -- ---- a line's end
 
--- the bytes before the first line feed
-pub before : (piece : List ℕ) (n : ℕ) → n ≤ length piece → ((j : ℕ) → 0 ≤ j → j < n → eqb (get_or piece j 0) 10 ≡ true → ⊥) → NoFeed (take n piece)
-before piece n h none j g e =
-    let l : length (take n piece) ≡ n = length-take-le n piece h in
-    none j (omega arith) (omega arith) (eq-eqb _ _ (sym (get_or-take n piece j 0 (omega arith)) ∙ e))
+pub none : (piece : List ℕ) → IsFirstByte (is_byte 10) piece None → NoFeed piece
+none piece f j h e = f j (omega arith) h (eq-eqb _ _ e)
 
-module _ (piece : List ℕ) (n : ℕ) (below : n < length piece) (feed : get_or piece n 0 ≡ 10) (none : NoFeed (take n piece)) where
+-- the first line feed of a piece is at place n
+module _ (piece : List ℕ) (n : ℕ) (first : IsFirstByte (is_byte 10) piece (Some n)) where
+  pub below : n < length piece
+  below = first.0.high
+
+  before : NoFeed (take n piece)
+  before j g e =
+      let l : length (take n piece) ≡ n = length-take-le n piece (omega (arith, below)) in
+      first.0.before j (omega arith) (omega arith) (eq-eqb _ _ (sym (get_or-take n piece j 0 (omega arith)) ∙ e))
+
   cut_at : piece ≡ take n piece ++ (10 ∷ drop (n + 1) piece)
-  cut_at = sym (take-append-drop n piece) ∙ ap (λ (l : List ℕ). take n piece ++ l) (rw (add-one, drop-cons piece n 0, feed))
+  cut_at = sym (take-append-drop n piece) ∙ ap (λ (l : List ℕ). take n piece ++ l) (rw (add-one, drop-cons piece n 0 below, eqb-true _ _ first.1))
 
   ends : (line rest : List ℕ) → frames_from line (10 ∷ rest) ≡ text_frame line ∷ frames_from [] rest
   unfolding frames_from
@@ -116,8 +123,8 @@ module _ (piece : List ℕ) (n : ℕ) (below : n < length piece) (feed : get_or 
 
   -- it stands in the piece
   pub stands : (line : List ℕ) (at : ℕ) → at ≡ 0 → (rest : List ℕ) → frames_from (take at line) (piece ++ rest) ≡ text_frame (take n piece) ∷ frames_from [] (drop (n + 1) piece ++ rest)
-  stands line at e = whole line (take n piece) at (λ rest. ap (λ (i : ℕ). frames_from (take i line) (take n piece ++ rest)) e ∙ no_feed [] (take n piece) rest none)
+  stands line at e = whole line (take n piece) at (λ rest. ap (λ (i : ℕ). frames_from (take i line) (take n piece ++ rest)) e ∙ no_feed [] (take n piece) rest before)
 
   -- it began before the piece
   pub goes_on : (line line' : List ℕ) (at k : ℕ) → Kept line at (take n piece) k line' → (rest : List ℕ) → frames_from (take at line) (piece ++ rest) ≡ text_frame (take k line') ∷ frames_from [] (drop (n + 1) piece ++ rest)
-  goes_on line line' at k g = whole line (take k line') at (g.frames none)
+  goes_on line line' at k g = whole line (take k line') at (g.frames before)

@@ -8,6 +8,7 @@ use crate::state::{State, busy};
 use crate::step::take_text;
 use events::step::{on_end, on_rest};
 use jumper::limits::MAX_PAIRS;
+use memchr::memchr;
 
 // A state, how much of the piece was taken in, and the place after what was written.
 #[derive(Clone, Copy)]
@@ -40,7 +41,7 @@ fn take_line(
     requires { (is_busy s.old ≡ false) × (0 < length piece.now) }
     ensures { TakenIn s.old line.old a.old b.old piece.now s.new result line.new a.new b.new }
 {
-    let Some(n) = memchr::memchr(b'\n', piece) else {
+    let Some(n) = memchr(b'\n', piece) else {
         s.at = keep(line, s.at, piece);
         return piece.len();
     };

@@ -96,11 +96,7 @@ impl State {
             wire: 0,
             track: 0,
         };
-        self.owe(
-            t,
-            Some(show(o.line, k)),
-            (k.refusal == 0).then_some(route),
-        );
+        self.owe(t, Some(show(o.line, k)), (k.refusal == 0).then_some(route));
     }
 }
 

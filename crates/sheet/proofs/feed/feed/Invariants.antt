@@ -7,7 +7,7 @@ invariant-loop-used l = record {
   within : l.used ≤ length l.piece;
   room : length l.out ≡ length l.fn.out;
   owed : (rest : List ℕ) → take l.at l.fn.out ++ owes l.fn.s l.fn.line l.fn.a l.fn.b (l.piece ++ rest) ≡ take l.n l.out ++ owes l.st l.line l.a l.b (drop l.used l.piece ++ rest);
-  fits : l.at ≤ length l.fn.out → l.n ≤ length l.fn.out
+  fits : l.at ≤ length l.fn.out → l.n ≤ length l.fn.out;
 }
 
 abbrev pub decreases-loop-used : goal.decreases-loop-used
