@@ -18,7 +18,7 @@ pub(crate) fn take_text(
 {
     let t = on_text(text, a, b, s.machine);
     match t.did {
-        Did::Completed(o) => s.complete(t, o, plan_first(a, b, o.pairs, o.separation, o.offset)),
+        Did::Completed(o) => s.complete(t, o, plan_first(a, b, o)),
         _ => s.take_step(t),
     }
 }
