@@ -25,6 +25,7 @@ fn cut_answer(cut: Option<u8>) -> Option<Answer>
 }
 
 // A frame 20, if there is one, written from place `at` of the buffer on: the place after it, none where it has no room.
+#[tactic(auto, using(crate::proofs::Gives::answer_full, crate::proofs::Gives::answer_put))]
 fn give_answer(k: Option<Answer>, out: &mut [u8], at: usize) -> Option<usize>
     ensures { AnswerGiven k out.old at result out.new }
 {

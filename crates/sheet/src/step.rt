@@ -8,6 +8,7 @@ use events::step::{Did, on_text};
 use jumper::limits::MAX_PAIRS;
 
 // A whole line, by its text: all before its line feed.
+#[tactic(auto, using(crate::proofs::Steps::plain_reacted, crate::proofs::Steps::completes_reacted))]
 pub(crate) fn take_text(
     text: &[u8],
     a: &mut [i32; MAX_PAIRS],
