@@ -2,18 +2,17 @@
 use Rattle.std.proofs.Common.{min, None, Some}
 use Rattle.memchr.specs.Find.{IsFirstByte, is_byte}
 use mathlib.Core.Path.{◌≡◌, refl, sym, ap, ◌∙◌}
-use mathlib.Core.Bool.{true, false}
-use mathlib.Core.Logic.{◌⊎◌, ⊎_elim}
+use mathlib.Core.Bool.{false}
 use mathlib.Core.List.{List, [], ◌∷◌, ◌++◌, map, append_assoc, append-nil}
 use Prim.Native.Nat.{ℕ, suc, ◌+◌, ◌-◌, ◌<◌, ◌≤◌}
 use native.Mathlib.Numerals.{add-one}
 use native.Mathlib.Omega.{arith}
 use lib.Dec.{eqb, leb}
-use lib.ListN.{length, get_or, drop, take, set, length-set, length-append, length-drop, take-append-drop, drop_of_length-le}
-use lib.Seq.{drop-cons, take-suc-set, take_all, drop-drop, get_or-take, get_or-drop, length-take-le}
+use lib.ListN.{length, drop, take, length-append, take-append-drop}
+use lib.Seq.{drop-cons, take_all, get_or-take, length-take-le}
 use borrow.Author.Tests.{eq-eqb, eqb-true, ne_eqb, eqb-false, leb-true, leb-false}
 use Rattle.frame.specs.Frame.{Frame, text_frame, is_fed, frame_of}
-use Rattle.frame.proofs.Scan.{either, below_or}
+use Rattle.frame.proofs.Scan.{either}
 use Rattle.frame.proofs.Frames.{long_bad, fed_frame, fed_last, unfed_bad}
 use Rattle.events.specs.Lines.{last_line, lines_from, lines_of}
 use Rattle.sheet.specs.Owes.{last_frame, frames_from}

@@ -4,19 +4,16 @@ use Rattle.std.proofs.Common.{◌&&◌, ◌||◌, Option, None, Some}
 use Rattle.std.specs.Option.{is_some, MatchOption}
 use Rattle.frame.specs.declared.write.Answer.{Answer}
 use mathlib.Core.Path.{◌≡◌, refl, sym, ap, ◌∙◌}
-use mathlib.Core.Bool.{Bool, true, false, cond, true≢false}
+use mathlib.Core.Bool.{Bool, false, true≢false}
 use mathlib.Core.List.{List, [], ◌∷◌, ◌++◌, append-nil}
-use Prim.Native.Nat.{ℕ, zero, suc, ◌+◌, ◌<◌, ◌≤◌}
-use native.Mathlib.Numerals.{add-one}
+use Prim.Native.Nat.{ℕ, zero, suc, ◌≤◌}
 use native.Mathlib.Omega.{arith}
 use lib.Dec.{eqb, ltb, leb}
-use lib.ListN.{length, drop, take, length-take}
-use lib.Seq.{drop-cons}
+use lib.ListN.{length, take, length-take}
 use lib.IntN.{ℤ}
 use borrow.Author.Tests.{le-leb, eqb-true, ltb-false}
 use Rattle.jumper.specs.Refusals.{refusal_numbers}
 use Rattle.jumper.specs.declared.refusal.Numbers.{Numbers}
-use Rattle.jumper.specs.declared.refusal.Refusal.TheVariants.{Sequence}
 use Rattle.frame.specs.Frame.{Frame, bad, text_frame}
 use Rattle.frame.specs.Written.{answer_line}
 use Rattle.frame.specs.declared.read.Order.{Order}

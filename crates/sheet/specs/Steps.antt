@@ -1,5 +1,5 @@
 -- The states that the code goes to. No reader needs to believe these: that they owe what a step calls for is proved (proofs/Steps.antt).
-use Rattle.std.specs.Prelude.{Option, None, Some, cond, ℕ, eqb}
+use Rattle.std.specs.Prelude.{Option, None, Some, cond, eqb}
 use Rattle.jumper.specs.Refusals.{refusal_numbers}
 use Rattle.jumper.specs.declared.refusal.Numbers.{Numbers}
 use Rattle.frame.specs.declared.read.Order.{Order}

@@ -59,32 +59,31 @@ pub fn feed(
     line: &mut [u8; 160],
     a: &mut [i32; MAX_PAIRS],
     b: &mut [i32; MAX_PAIRS],
-    s: State,
+    mut s: State,
     piece: &[u8],
     out: &mut [u8],
     at: usize,
 ) -> Feeding
     ensures { Fed s line.old a.old b.old piece.now out.old at result.s result.used result.n line.new a.new b.new out.new }
 {
-    let mut st = s;
     let mut used = 0;
     let mut n = at;
     while used < piece.len() {
-        if busy(st) {
-            let g = give(a, b, st, out, n);
-            st = g.s;
+        if busy(s) {
+            let g = give(a, b, s, out, n);
+            s = g.s;
             n = g.n;
-            if busy(st) {
+            if busy(s) {
                 break;
             }
         }
-        used += take_line(line, a, b, &mut st, &piece[used..]);
+        used += take_line(line, a, b, &mut s, &piece[used..]);
     }
-    Feeding { s: st, used, n }
+    Feeding { s, used, n }
 }
 
 // The sheet ends. A last line without its line feed is a bad frame, and an open line is out of sequence.
-pub fn finish(line: &[u8; 160], s: State) -> State
+pub fn finish(line: &[u8; 160], mut s: State) -> State
     ensures { (a b : List ℤ) → Finished s line.now a b result }
 {
     if busy(s) {
@@ -95,7 +94,6 @@ pub fn finish(line: &[u8; 160], s: State) -> State
     } else {
         on_rest(s.machine)
     };
-    let mut r = s;
-    r.take_step(t);
-    r
+    s.take_step(t);
+    s
 }

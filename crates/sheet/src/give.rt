@@ -25,6 +25,7 @@ fn cut_answer(cut: Option<u8>) -> Option<Answer>
 }
 
 // A frame 20, if there is one, written from place `at` of the buffer on: the place after it, none where it has no room.
+#[tactic(auto, using(crate::proofs::Gives::answer_full, crate::proofs::Gives::answer_put))]
 fn give_answer(k: Option<Answer>, out: &mut [u8], at: usize) -> Option<usize>
     ensures { AnswerGiven k out.old at result out.new }
 {
@@ -39,7 +40,7 @@ fn give_answer(k: Option<Answer>, out: &mut [u8], at: usize) -> Option<usize>
 pub fn give(
     a: &[i32; MAX_PAIRS],
     b: &[i32; MAX_PAIRS],
-    s: State,
+    mut s: State,
     out: &mut [u8],
     at: usize,
 ) -> Giving
@@ -48,17 +49,11 @@ pub fn give(
     let Some(p) = give_answer(cut_answer(s.cut), out, at) else {
         return Giving { s, n: at };
     };
+    s.cut = None;
     let Some(q) = give_answer(s.due, out, p) else {
-        return Giving {
-            s: State { cut: None, ..s },
-            n: p,
-        };
+        return Giving { s, n: p };
     };
-    let s = State {
-        cut: None,
-        due: None,
-        ..s
-    };
+    s.due = None;
     match s.route {
         Some(r) if r.wires <= MAX_PAIRS => {
             let m = give_moves(
@@ -72,18 +67,12 @@ pub fn give(
                 out,
                 q,
             );
-            let left = Route {
+            s.route = Some(Route {
                 wire: m.wire,
                 track: m.track,
                 ..r
-            };
-            Giving {
-                s: State {
-                    route: Some(left),
-                    ..s
-                },
-                n: m.at,
-            }
+            });
+            Giving { s, n: m.at }
         }
         _ => Giving { s, n: q },
     }

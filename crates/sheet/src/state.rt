@@ -35,6 +35,7 @@ pub struct State {
 }
 
 // A sheet of which nothing was taken in.
+#[tactic(auto, using(crate::proofs::Steps::fresh_owes), unfolding(crate::specs::Owes::pending, crate::specs::Owes::left_text))]
 pub fn fresh() -> State
     ensures { Fresh result }
 {

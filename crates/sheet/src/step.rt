@@ -8,6 +8,7 @@ use events::step::{Did, on_text};
 use jumper::limits::MAX_PAIRS;
 
 // A whole line, by its text: all before its line feed.
+#[tactic(auto, using(crate::proofs::Steps::plain_reacted, crate::proofs::Steps::completes_reacted))]
 pub(crate) fn take_text(
     text: &[u8],
     a: &mut [i32; MAX_PAIRS],
@@ -18,7 +19,7 @@ pub(crate) fn take_text(
 {
     let t = on_text(text, a, b, s.machine);
     match t.did {
-        Did::Completed(o) => s.complete(t, o, plan_first(a, b, o.pairs, o.separation, o.offset)),
+        Did::Completed(o) => s.complete(t, o, plan_first(a, b, o)),
         _ => s.take_step(t),
     }
 }

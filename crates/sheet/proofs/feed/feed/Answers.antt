@@ -9,10 +9,10 @@ pub loop-used-preserved : goal.loop-used-preserved
 loop-used-preserved c =
     let P = c.args.piece.now in
     let inv = c.loop-used.invariant in
-    let given : Given c.loop-used.st c.loop-used.a c.loop-used.b c.loop-used.out c.loop-used.n c.if-busy.st c.if-busy.n c.if-busy.out =
+    let given : Given c.loop-used.s c.loop-used.a c.loop-used.b c.loop-used.out c.loop-used.n c.if-busy.s c.if-busy.n c.if-busy.out =
     elim c.if-busy.branch [
-      | then-busy+else-busy-2 w ↦ rw (w.out-is, w.st-is, w.n-is) w.give-g.ensures
-      | else-busy w ↦ rw (w.out-is, w.st-is, w.n-is) (given_idle _ _ _ _ _ (sym c.busy.ensures.answer ∙ w.if-busy.false))
+      | then-busy+else-busy-2 w ↦ rw (w.out-is, w.s-is, w.n-is) w.give-g.ensures
+      | else-busy w ↦ rw (w.out-is, w.s-is, w.n-is) (given_idle _ _ _ _ _ (sym c.busy.ensures.answer ∙ w.if-busy.false))
     ] in
     record {
       within = used_within P _ _ (part P _ inv.within) _ inv.within c.take_line-used.ensures.within;

@@ -6,7 +6,7 @@ abbrev pub invariant-loop-used : goal.invariant-loop-used
 invariant-loop-used l = record {
   within : l.used ≤ length l.piece;
   room : length l.out ≡ length l.fn.out;
-  owed : (rest : List ℕ) → take l.at l.fn.out ++ owes l.fn.s l.fn.line l.fn.a l.fn.b (l.piece ++ rest) ≡ take l.n l.out ++ owes l.st l.line l.a l.b (drop l.used l.piece ++ rest);
+  owed : (rest : List ℕ) → take l.at l.fn.out ++ owes l.fn.s l.fn.line l.fn.a l.fn.b (l.piece ++ rest) ≡ take l.n l.out ++ owes l.s l.line l.a l.b (drop l.used l.piece ++ rest);
   fits : l.at ≤ length l.fn.out → l.n ≤ length l.fn.out;
 }
 

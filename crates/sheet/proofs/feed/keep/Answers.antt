@@ -1,4 +1,4 @@
-use Rattle.std.proofs.Common.{arith, length, take, ◌≡◌, ◌+◌, ◌++◌, rules}
+use Rattle.std.proofs.Common.{rules}
 use Rattle.std.proofs.lemmas.Slice.{overwrites}
 use Rattle.sheet.proofs.Lines.{kept}
 use Rattle.sheet.proofs.feed.keep.Goals as goal

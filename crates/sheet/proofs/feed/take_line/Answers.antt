@@ -1,4 +1,4 @@
-use Rattle.std.proofs.Common.{arith, ◌+◌, length, drop_of_length-le}
+use Rattle.std.proofs.Common.{arith, length, drop_of_length-le}
 use Rattle.sheet.proofs.Lines.{none, below, stands, goes_on}
 use Rattle.sheet.proofs.Steps.{kept_owes, fed_owes}
 use Rattle.sheet.proofs.feed.take_line.Goals as goal

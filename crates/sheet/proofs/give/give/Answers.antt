@@ -1,4 +1,4 @@
-use Rattle.std.proofs.Common.{rules, w32, ap, refl, ◌∙◌}
+use Rattle.std.proofs.Common.{rules, w32, ap, ◌∙◌}
 use mir.Val.{SFits}
 use Rattle.std.proofs.lemmas.Int.{to_z-of_z}
 use Rattle.sheet.specs.Owes.{has_wires}
