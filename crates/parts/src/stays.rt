@@ -7,34 +7,18 @@ use jumper::refusal::Refusal;
 use jumper::rows::Checked;
 
 // How many pairs stay.
-#[tactic(auto, using(crate::proofs::Keeping::as_many, crate::proofs::Keeping::one_more, crate::proofs::Keeping::kept_few, crate::proofs::Keeping::kept_none))]
+#[tactic(auto, using(crate::proofs::Keeping::kept_count))]
 pub(crate) fn pairs_kept(stays: &[u8]) -> usize
     ensures { result ≡ length (kept stays.now) }
 {
-    let mut m: usize = 0;
-    let mut i: usize = 0;
-    while i < stays.len() {
-        if stays[i] != 0 {
-            m += 1;
-        }
-        i += 1;
-    }
-    m
+    stays.iter().filter(|&&stay| stay != 0).count()
 }
 
 // Whether no pair stays. It stops at the first that does, where counting them would read all bytes.
-#[tactic(auto, using(crate::proofs::Keeping::as_many, crate::proofs::Keeping::kept_none, crate::proofs::Keeping::kept_room))]
 fn none_stays(stays: &[u8]) -> bool
     ensures { result ≡ eqb (length (kept stays.now)) 0 }
 {
-    let mut passed: usize = 0;
-    while passed < stays.len() {
-        if stays[passed] != 0 {
-            return false;
-        }
-        passed += 1;
-    }
-    true
+    stays.iter().all(|&stay| stay == 0)
 }
 
 // Refusals 1 to 7, by number: UNEQUAL and EMPTY speak of the bytes too, all others of the whole rows.

@@ -26,9 +26,7 @@ fn fit_part(a: &[i32], b: &[i32], stays: &[u8], s: usize, d: i32) -> Checked
 {
     let mut bottom = [0i32; MAX_PAIRS];
     let mut top = [0i32; MAX_PAIRS];
-    let m = keep_pads(a, stays, &mut bottom);
-    keep_pads(b, stays, &mut top);
-    let below = &bottom[..m];
-    let above = &top[..m];
+    let below = keep_pads(a, stays, &mut bottom);
+    let above = keep_pads(b, stays, &mut top);
     fit(below, above, s, d)
 }
