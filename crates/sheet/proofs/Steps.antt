@@ -19,8 +19,11 @@ use Rattle.frame.specs.Written.{answer_line}
 use Rattle.frame.specs.declared.read.Order.{Order}
 use Rattle.frame.proofs.Scan.{either}
 use Rattle.events.specs.Events.{Mode, ready, inside, skipping, Event, mode_after, event, at_end, noted, events, events_of}
-use Rattle.events.specs.Steps.{mode_of, seen_by, step_of, told_by, tells, Begun, Told, Stepped}
+use Rattle.events.specs.Steps.{mode_of, seen_by, step_of, inside_told, told_by, cut_first, tells, Begun, Told, Stepped}
 use Rattle.events.specs.declared.machine.Machine.{Machine}
+use Rattle.events.specs.declared.machine.OpenLine.{OpenLine}
+use Rattle.events.specs.declared.machine.Phase.{Phase}
+use Rattle.events.specs.declared.machine.Phase.TheVariants.{Ready, Inside, Skipping}
 use Rattle.events.specs.declared.step.Did.{Did}
 use Rattle.events.specs.declared.step.Did.TheVariants.{Opened, Filled, Completed, Refused, Passed}
 use Rattle.events.specs.declared.step.Step.{Step}
@@ -28,7 +31,7 @@ use Rattle.events.proofs.Agree.{events_agree}
 use Rattle.route.proofs.Texts.{whole_route, no_moves}
 use Rattle.sheet.specs.Planned.{planned, PlanTold}
 use Rattle.sheet.specs.Machine.{shown, refusal_text, line_text, text_of, told, answers}
-use Rattle.sheet.specs.Steps.{quiet, complete, after}
+use Rattle.sheet.specs.Steps.{complete, after}
 use Rattle.sheet.specs.Owes.{frames_from, last_frame, cut_text, due_text, left_text, pending, later, owes, has_wires, is_busy, Fresh, Busy, Finished}
 use Rattle.sheet.specs.Parts.{Reacted, Kept, NoFeed}
 use Rattle.sheet.specs.declared.state.Route.{Route}
@@ -56,9 +59,19 @@ complete_text t o a b k small plan =
 -- ---- a step
 
 -- what answers a step: the line that it cut off, then what it did
-step_text : (t : Step) (a b : List ℤ) → text_of (tells t a b) ≡ cut_text (quiet t).cut ++ text_of (told_by t.did t.machine a b)
+cut_told : (l : Option ℕ) (e : Event) → text_of (cut_first l e) ≡ cut_text l ++ text_of e
+cut_told None e = refl
+cut_told (Some l) e = refl
+
+step_text : (t : Step) (a b : List ℤ) → text_of (tells t a b) ≡ cut_text t.cut ++ text_of (told_by t.did t.machine a b)
 unfolding tells
-step_text t a b = either t.cut (λ e. simp e) (λ e. simp e)
+step_text t a b = cut_told t.cut (told_by t.did t.machine a b)
+
+-- nothing answers a line that is opened or filled
+inside_text : (p : Phase) (e : OpenLine → Event) → ((q : OpenLine) → text_of (e q) ≡ []) → [] ≡ text_of (inside_told p e)
+inside_text Ready e none = refl
+inside_text (Inside q) e none = sym (none q)
+inside_text Skipping e none = refl
 
 -- that completes no line
 abbrev Plain : Did → Type 0
@@ -78,12 +91,12 @@ after_machine t (Completed o) = refl
 after_machine t (Refused l x) = refl
 after_machine t Passed = refl
 
-after_text : (t : Step) (d : Did) (a b : List ℤ) → Plain d → pending (after t d) a b ≡ cut_text (quiet t).cut ++ text_of (told_by d t.machine a b)
+after_text : (t : Step) (d : Did) (a b : List ℤ) → Plain d → pending (after t d) a b ≡ cut_text t.cut ++ text_of (told_by d t.machine a b)
 unfolding pending left_text refusal_text
-after_text t Opened a b h = refl
-after_text t Filled a b h = refl
+after_text t Opened a b h = ap (λ (z : List ℕ). cut_text t.cut ++ z) (inside_text t.machine.phase _ (λ q. refl))
+after_text t Filled a b h = ap (λ (z : List ℕ). cut_text t.cut ++ z) (inside_text t.machine.phase _ (λ q. refl))
 after_text t (Completed o) a b h = absurd (h o refl)
-after_text t (Refused l x) a b h = ap (λ (z : List ℕ). cut_text (quiet t).cut ++ z) (append-nil (answer_line (shown l (refusal_numbers x))))
+after_text t (Refused l x) a b h = ap (λ (z : List ℕ). cut_text t.cut ++ z) (append-nil (answer_line (shown l (refusal_numbers x))))
 after_text t Passed a b h = refl
 
 module _ (s : State) (a b : List ℤ) (f : Frame) (t : Step) (a' b' : List ℤ) (k : Stepped s.machine a b f t a' b') (r : State) where
@@ -100,7 +113,7 @@ module _ (s : State) (a b : List ℤ) (f : Frame) (t : Step) (a' b' : List ℤ) 
   unfolding pending
   completes_reacted o n d plan e =
       rw e (record {
-        out = ap (λ (l : List ℕ). cut_text (quiet t).cut ++ l) (complete_text t o a' b' n (k.told.few o d) plan ∙ sym (ap (λ (z : Did). text_of (told_by z t.machine a' b')) d)) ∙ sym (step_text t a' b') ∙ ap text_of k.told.event;
+        out = ap (λ (l : List ℕ). cut_text t.cut ++ l) (complete_text t o a' b' n (k.told.few o d) plan ∙ sym (ap (λ (z : Did). text_of (told_by z t.machine a' b')) d)) ∙ sym (step_text t a' b') ∙ ap text_of k.told.event;
         to = k.told.mode;
         seen = k.seen;
         begun = refl;

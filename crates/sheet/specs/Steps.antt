@@ -13,7 +13,7 @@ use Rattle.sheet.specs.declared.state.State.{State}
 
 -- after a step: the 20 of a line that it cut off is to be written; a 20; and a route
 abbrev pub owing : Step → (due : Option Answer) → Option Route → State
-owing t due r = record { at = 0; machine = t.machine; cut = cond t.cut (Some t.former) None; due = due; route = r }
+owing t due r = record { at = 0; machine = t.machine; cut = t.cut; due = due; route = r }
 
 abbrev pub quiet : Step → State
 quiet t = owing t None None

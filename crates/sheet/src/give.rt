@@ -6,7 +6,7 @@ ghost use Rattle.sheet.specs.Parts.{AnswerGiven};
 use crate::state::{Route, State, show};
 use frame::write::{Answer, put_answer};
 use jumper::limits::MAX_PAIRS;
-use jumper::refusal::Refusal;
+use jumper::refusal::{Numbers, Refusal};
 use route::moves::give_moves;
 
 // A state, and the place after what was written.
@@ -21,7 +21,7 @@ pub struct Giving {
 fn cut_answer(cut: Option<u8>) -> Option<Answer>
     ensures { due_text result ≡ cut_text cut }
 {
-    cut.map(|line| show(line, Refusal::Sequence.numbers()))
+    cut.map(|line| show(line, Numbers::from(Refusal::Sequence)))
 }
 
 // A frame 20, if there is one, written from place `at` of the buffer on: the place after it, none where it has no room.

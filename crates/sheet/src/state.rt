@@ -70,7 +70,7 @@ impl State {
     {
         self.at = 0;
         self.machine = t.machine;
-        self.cut = if t.cut { Some(t.former) } else { None };
+        self.cut = t.cut;
         self.due = due;
         self.route = route;
     }
@@ -80,7 +80,7 @@ impl State {
         ensures { self.new ≡ after t t.did }
     {
         match t.did {
-            Did::Refused(line, r) => self.owe(t, Some(show(line, r.numbers())), None),
+            Did::Refused(line, r) => self.owe(t, Some(show(line, Numbers::from(r))), None),
             Did::Opened | Did::Filled | Did::Completed(_) | Did::Passed => self.owe(t, None, None),
         }
     }
