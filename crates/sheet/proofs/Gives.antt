@@ -51,47 +51,58 @@ module _ (k : Answer) (out : List ℕ) (at p : ℕ) (out' : List ℕ) (put : Lin
 
 -- ---- what a state has to write, part by part
 
-module _ (s : State) (a b : List ℤ) (k : Option Answer) (cut : due_text k ≡ cut_text s.cut) (out one : List ℕ) (at p : ℕ) (l : length one ≡ length out) (f : AnswerPut k out at p one) where
-  cut_given : take at out ++ pending s a b ≡ take p one ++ (due_text s.due ++ left_text s.route a b)
-  unfolding pending
-  cut_given =
-      sym (append_assoc (take at out) (cut_text s.cut) (due_text s.due ++ left_text s.route a b))
-      ∙ ap (λ (z : List ℕ). z ++ (due_text s.due ++ left_text s.route a b)) (ap (λ (z : List ℕ). take at out ++ z) (sym cut) ∙ sym f.gave)
+-- a part of it is written, and this is left
+pub record Written (s : State) (a b : List ℤ) (out : List ℕ) (at : ℕ) (left out' : List ℕ) (to : ℕ) : Type 0 where
+  pub gave : take at out ++ pending s a b ≡ take to out' ++ left
+  pub same : length out' ≡ length out
+  pub fits : at ≤ length out → to ≤ length out
 
-  pub due_full : (two : List ℕ) → two ≡ one → length one < p + 35 → Given s a b out at (record s { cut = None }) p two
-  unfolding pending later
-  due_full two e h =
-      rw e (record { gave = cut_given; same = (λ line rest. refl); fits = (λ i. let z = f.fits i in omega arith); far = λ _. omega arith })
+pub cut_done : {s : State} {a b : List ℤ} {k : Option Answer} {out out' : List ℕ} {at to : ℕ} → due_text k ≡ cut_text s.cut → length out' ≡ length out → AnswerPut k out at to out'
+    → Written s a b out at (due_text s.due ++ left_text s.route a b) out' to
+unfolding pending
+cut_done {s = s} {a = a} {b = b} {out = out} {at = at} cut same f =
+    record {
+      gave = sym (append_assoc (take at out) (cut_text s.cut) (due_text s.due ++ left_text s.route a b))
+          ∙ ap (λ (z : List ℕ). z ++ (due_text s.due ++ left_text s.route a b)) (ap (λ (z : List ℕ). take at out ++ z) (sym cut) ∙ sym f.gave);
+      same = same;
+      fits = f.fits;
+    }
 
-  module _ (two : List ℕ) (q : ℕ) (m : length two ≡ length out) (g : AnswerPut s.due one p q two) where
-    due_given : take at out ++ pending s a b ≡ take q two ++ left_text s.route a b
-    due_given =
-        cut_given
-        ∙ sym (append_assoc (take p one) (due_text s.due) (left_text s.route a b))
-        ∙ ap (λ (z : List ℕ). z ++ left_text s.route a b) (sym g.gave)
+pub due_done : {s : State} {a b : List ℤ} {out one two : List ℕ} {at p q : ℕ} → Written s a b out at (due_text s.due ++ left_text s.route a b) one p → length two ≡ length one
+    → AnswerPut s.due one p q two → Written s a b out at (left_text s.route a b) two q
+due_done {s = s} {a = a} {b = b} {one = one} {p = p} w same g =
+    record {
+      gave = w.gave ∙ sym (append_assoc (take p one) (due_text s.due) (left_text s.route a b)) ∙ ap (λ (z : List ℕ). z ++ left_text s.route a b) (sym g.gave);
+      same = same ∙ w.same;
+      fits = λ h. omega (arith, w.fits h, g.fits, w.same);
+    }
 
-    fits : at ≤ length out → q ≤ length out
-    fits i = let y = f.fits i in let z = g.fits (omega arith) in omega arith
+-- the 20 that is due has no room
+pub due_full : {s : State} {a b : List ℤ} {out one two : List ℕ} {at p : ℕ} → Written s a b out at (due_text s.due ++ left_text s.route a b) one p → two ≡ one → length one < p + 35
+    → Given s a b out at (record s { cut = None }) p two
+unfolding pending later
+due_full w e h = rw e (record { gave = w.gave; same = (λ line rest. refl); fits = w.fits; far = λ _. omega (arith, w.same) })
 
-    pub no_route : has_wires s.route ≡ false → Given s a b out at (record s { cut = None; due = None }) q two
-    unfolding pending later is_busy
-    no_route e = record { gave = due_given; same = (λ line rest. refl); fits = fits; far = λ h. absurd (true≢false (sym h ∙ e)) }
+pub no_route : {s : State} {a b : List ℤ} {out two : List ℕ} {at q : ℕ} → Written s a b out at (left_text s.route a b) two q → has_wires s.route ≡ false
+    → Given s a b out at (record s { cut = None; due = None }) q two
+unfolding pending later is_busy
+no_route w e = record { gave = w.gave; same = (λ line rest. refl); fits = w.fits; far = λ h. absurd (true≢false (sym h ∙ e)) }
 
-    pub route_given : (r : Route) → s.route ≡ Some r → r.wires ≤ 2048 → length a ≡ 2048 → (i t to : ℕ) (out' : List ℕ)
-        → MovesOut r.line r.separation r.offset (take r.wires a) (take r.wires b) r.wire r.track two q i t to out'
-        → Given s a b out at (record s { cut = None; due = None; route = Some (record r { wire = i; track = t }) }) to out'
-    unfolding pending left_text later is_busy
-    route_given r is few full i t to out' w =
-        record {
-          gave = due_given ∙ ap (λ (o : Option Route). take q two ++ left_text o a b) is ∙ simp (le-leb _ _ few) w.gave;
-          same = (λ line rest. refl);
-          fits = (λ h. let y = fits h in let z = w.fits (omega arith) in omega arith);
-          far = λ h. let n : length (take r.wires a) ≡ r.wires = length-take-le r.wires a (omega arith) in
-              let u : i < r.wires = ltb-true i r.wires (simp (le-leb _ _ few) at h) in let z = w.far (omega arith) in omega arith;
-        }
+pub route_given : {s : State} {r : Route} {a b : List ℤ} {out two out' : List ℕ} {at q i t to : ℕ} → Written s a b out at (left_text s.route a b) two q
+    → s.route ≡ Some r → r.wires ≤ 2048 → length a ≡ 2048 → MovesOut r.line r.separation r.offset (take r.wires a) (take r.wires b) r.wire r.track two q i t to out'
+    → Given s a b out at (record s { cut = None; due = None; route = Some (record r { wire = i; track = t }) }) to out'
+unfolding pending left_text later is_busy
+route_given {r = r} {a = a} {b = b} {two = two} {q = q} {i = i} w is few full m =
+    record {
+      gave = w.gave ∙ ap (λ (o : Option Route). take q two ++ left_text o a b) is ∙ simp (le-leb _ _ few) m.gave;
+      same = (λ line rest. refl);
+      fits = (λ h. omega (arith, w.fits h, m.fits, w.same));
+      far = λ h. let n : length (take r.wires a) ≡ r.wires = length-take-le r.wires a (omega arith) in
+          let u : i < r.wires = ltb-true i r.wires (simp (le-leb _ _ few) at h) in omega (arith, m.far (omega arith), w.same);
+    }
 
 pub wide : (r : Route) → 2048 < r.wires → has_wires (Some r) ≡ false
 wide r h = simp (lt-leb _ _ h)
 
-pub given_idle : (s : State) (a b : List ℤ) (out : List ℕ) (at : ℕ) → is_busy s ≡ false → Given s a b out at s at out
-given_idle s a b out at idle = record { gave = refl; same = (λ line rest. refl); fits = (λ h. h); far = λ h. absurd (true≢false (sym h ∙ idle)) }
+pub given_idle : {s : State} {a b : List ℤ} {out : List ℕ} {at : ℕ} → is_busy s ≡ false → Given s a b out at s at out
+given_idle idle = record { gave = refl; same = (λ line rest. refl); fits = (λ h. h); far = λ h. absurd (true≢false (sym h ∙ idle)) }
