@@ -68,7 +68,7 @@ cut_done {s = s} {a = a} {b = b} {out = out} {at = at} cut same f =
       fits = f.fits;
     }
 
-pub due_done : {s : State} {a b : List ℤ} {out one two : List ℕ} {at p q : ℕ} → Written s a b out at (due_text s.due ++ left_text s.route a b) one p → length two ≡ length one
+due_done : {s : State} {a b : List ℤ} {out one two : List ℕ} {at p q : ℕ} → Written s a b out at (due_text s.due ++ left_text s.route a b) one p → length two ≡ length one
     → AnswerPut s.due one p q two → Written s a b out at (left_text s.route a b) two q
 due_done {s = s} {a = a} {b = b} {one = one} {p = p} w same g =
     record {
@@ -76,6 +76,10 @@ due_done {s = s} {a = a} {b = b} {one = one} {p = p} w same g =
       same = same ∙ w.same;
       fits = λ h. omega (arith, w.fits h, g.fits, w.same);
     }
+
+pub both_done : {s : State} {a b : List ℤ} {k : Option Answer} {out one two : List ℕ} {at p q : ℕ} → due_text k ≡ cut_text s.cut → length one ≡ length out → AnswerPut k out at p one
+    → length two ≡ length one → AnswerPut s.due one p q two → Written s a b out at (left_text s.route a b) two q
+both_done cut l f m g = due_done (cut_done cut l f) m g
 
 -- the 20 that is due has no room
 pub due_full : {s : State} {a b : List ℤ} {out one two : List ℕ} {at p : ℕ} → Written s a b out at (due_text s.due ++ left_text s.route a b) one p → two ≡ one → length one < p + 35
