@@ -26,9 +26,6 @@ use Rattle.best.specs.Work.{level_entries, low_read, high_read, read_of, Readabl
 pub whole_entries : (a : List ℤ) → level_entries a 1 ≡ lean_of a
 whole_entries a = fun_ext (λ j. rw (one-mul j))
 
-pub whole_strided : {n : ℕ} → 1 ≤ n → n ≤ max_pairs → Strided n 1 n
-whole_strided {n} h k = record { some = h; few = k; inside = rw (one-mul (n - 1)) (omega arith) }
-
 -- "the even half (entries 0, 2, 4 .. of x and y)" stands at twice the stride
 twice_times : (p j : ℕ) → 2 * p * j ≡ p * (2 * j)
 twice_times p j = mul_assoc 2 p j ∙ mul_left_comm 2 p j
@@ -36,17 +33,13 @@ twice_times p j = mul_assoc 2 p j ∙ mul_left_comm 2 p j
 pub even_entries : (a : List ℤ) (p : ℕ) → evens (level_entries a p) ≡ level_entries a (2 * p)
 even_entries a p = fun_ext (λ j. rw (twice_times p j))
 
-pub even_strided : {n p m : ℕ} → 1 < m → Strided n p m → Strided n (2 * p) (half m)
-even_strided {n} {p} {m} more s =
+pub even_strided : {n p m k : ℕ} → 1 < m → m ≤ 2 * k → 2 * k ≤ m + 1 → Strided n p m → Strided n (2 * p) k
+even_strided {n} {p} {m} {k} more low high s =
     record {
       some = omega arith;
       few = omega (arith, s.few);
-      inside = omega (arith, s.inside, twice_times p (half m - 1), mul-le-mul_left {m = 2 * (half m - 1)} {n = m - 1} p (omega arith));
+      inside = omega (arith, s.inside, twice_times p (k - 1), mul-le-mul_left {m = 2 * (k - 1)} {n = m - 1} p (omega arith));
     }
-
--- where there is more than one entry, the stride is below the number of pads
-pub step_small : {n p m : ℕ} → 1 < m → Strided n p m → p < n
-step_small {n} {p} {m} more s = omega (arith, s.inside, le-mul_of_pos_right {m = m - 1} p (omega arith))
 
 -- the pad of an entry is in its row
 pub inside_row : {n p m : ℕ} → Strided n p m → (j : ℕ) → j < m → p * j < n
@@ -65,16 +58,6 @@ top_steady {b = b} r s = level_steady b (rw r.equal r.top.rising) s
 -- the difference of two pads of accepted rows is no large number
 pub near_difference : {a b : List ℤ} → AcceptedRows a b → (i j : ℕ) → nat_abs (pad a i -ℤ pad b j) ≤ 2000000
 near_difference {a} {b} r i j = omega (arith, abs_dif (pad a i) (pad b j), near a r.bottom i, near b r.top j)
-
--- the pads that round i reads are in the rows
-pub read_inside : {n p gap count : ℕ} → Readable n p gap count → (i : ℕ) → i < count → p * i + gap < n
-read_inside {n} {p} {gap} {count} r i h = omega (arith, r.inside, mul-le-mul_left {m = i} {n = count - 1} p (omega arith))
-
--- what is read for a trial at s
-pub readable : {n p m s : ℕ} → Strided n p m → s < m → Readable n p (p * s) (m - s)
-readable {n} {p} {m} {s} t h =
-    let e : m - s - 1 + s ≡ m - 1 = omega arith in
-    record { some = omega arith; few = omega (arith, t.few); inside = omega (arith, t.inside, rw e at (mul-add p (m - s - 1) s)) }
 
 -- every low end is p s further on than what is read for it, every high end as much less
 module _ (a b : List ℤ) (p s : ℕ) where

@@ -7,8 +7,8 @@ use Rattle.best.proofs.entries.Entries.range_at.Goals as goal
 
 pub overflow_sub-result : goal.overflow_sub-result
 overflow_sub-result c =
-    let e = c.args.self in
-    let r = e.rows in
+    let e = c.args.self.now in
+    let r = e.rows.now in
     let g = c.read-read.result in
     let k = inside_row e.strided c.args.s c.requires in
     let f : SFits w32 g.high = search rules in
@@ -17,8 +17,8 @@ overflow_sub-result c =
 
 pub returns : goal.returns
 returns c =
-    let e = c.args.self in
-    let r = e.rows in
+    let e = c.args.self.now in
+    let r = e.rows.now in
     let g = c.read-read.result in
     let z = pos (e.step * c.args.s) in
     let k = inside_row e.strided c.args.s c.requires in
