@@ -31,7 +31,7 @@ use Rattle.events.proofs.Agree.{events_agree}
 use Rattle.route.proofs.Texts.{whole_route, no_moves}
 use Rattle.sheet.specs.Planned.{planned, PlanTold}
 use Rattle.sheet.specs.Machine.{shown, refusal_text, line_text, text_of, told, answers}
-use Rattle.sheet.specs.Steps.{complete, after}
+use Rattle.sheet.specs.Steps.{complete, due_after, after}
 use Rattle.sheet.specs.Owes.{frames_from, last_frame, cut_text, due_text, left_text, pending, later, owes, has_wires, is_busy, Fresh, Busy, Finished}
 use Rattle.sheet.specs.Parts.{Reacted, Kept, NoFeed}
 use Rattle.sheet.specs.declared.state.Route.{Route}
@@ -77,37 +77,21 @@ inside_text Skipping e none = refl
 abbrev Plain : Did → Type 0
 Plain d = (o : Order) → d ≡ Completed o → ⊥
 
-after_at : (t : Step) (d : Did) → (after t d).at ≡ 0
-after_at t Opened = refl
-after_at t Filled = refl
-after_at t (Completed o) = refl
-after_at t (Refused l x) = refl
-after_at t Passed = refl
+due_after_text : (d : Did) (m : Machine) (a b : List ℤ) → Plain d → due_text (due_after d) ++ [] ≡ text_of (told_by d m a b)
+unfolding refusal_text
+due_after_text Opened m a b h = inside_text m.phase _ (λ q. refl)
+due_after_text Filled m a b h = inside_text m.phase _ (λ q. refl)
+due_after_text (Completed o) m a b h = absurd (h o refl)
+due_after_text (Refused l x) m a b h = append-nil (answer_line (shown l (refusal_numbers x)))
+due_after_text Passed m a b h = refl
 
-after_machine : (t : Step) (d : Did) → (after t d).machine ≡ t.machine
-after_machine t Opened = refl
-after_machine t Filled = refl
-after_machine t (Completed o) = refl
-after_machine t (Refused l x) = refl
-after_machine t Passed = refl
-
-after_text : (t : Step) (d : Did) (a b : List ℤ) → Plain d → pending (after t d) a b ≡ cut_text t.cut ++ text_of (told_by d t.machine a b)
-unfolding pending left_text refusal_text
-after_text t Opened a b h = ap (λ (z : List ℕ). cut_text t.cut ++ z) (inside_text t.machine.phase _ (λ q. refl))
-after_text t Filled a b h = ap (λ (z : List ℕ). cut_text t.cut ++ z) (inside_text t.machine.phase _ (λ q. refl))
-after_text t (Completed o) a b h = absurd (h o refl)
-after_text t (Refused l x) a b h = ap (λ (z : List ℕ). cut_text t.cut ++ z) (append-nil (answer_line (shown l (refusal_numbers x))))
-after_text t Passed a b h = refl
+after_text : (t : Step) (a b : List ℤ) → Plain t.did → pending (after t) a b ≡ text_of (tells t a b)
+unfolding pending left_text
+after_text t a b h = ap (λ (z : List ℕ). cut_text t.cut ++ z) (due_after_text t.did t.machine a b h) ∙ sym (step_text t a b)
 
 module _ (s : State) (a b : List ℤ) (f : Frame) (t : Step) (a' b' : List ℤ) (k : Stepped s.machine a b f t a' b') (r : State) where
-  pub plain_reacted : Plain t.did → r ≡ after t t.did → Reacted s a b f r a' b'
-  plain_reacted h e =
-      rw e (record {
-        out = after_text t t.did a' b' h ∙ sym (step_text t a' b') ∙ ap text_of k.told.event;
-        to = ap (λ (m : Machine). mode_of m a' b') (after_machine t t.did) ∙ k.told.mode;
-        seen = λ l h. ap (λ (m : Machine). seen_by m l) (after_machine t t.did) ∙ k.seen l h;
-        begun = after_at t t.did;
-      })
+  pub plain_reacted : Plain t.did → r ≡ after t → Reacted s a b f r a' b'
+  plain_reacted h e = rw e (record { out = after_text t a' b' h ∙ ap text_of k.told.event; to = k.told.mode; seen = k.seen; begun = refl })
 
   pub completes_reacted : (o : Order) (n : Numbers) → t.did ≡ Completed o → PlanTold o.separation o.offset (take o.pairs a') (take o.pairs b') n → r ≡ complete t o n → Reacted s a b f r a' b'
   unfolding pending
@@ -190,15 +174,15 @@ rest_skips seen ready = refl
 rest_skips seen (inside o a b) = refl
 rest_skips seen skipping = refl
 
-module _ (s : State) (line : List ℕ) (a b : List ℤ) (full : length line ≡ 160) (idle : is_busy s ≡ false) (t : Step) (r : State) (is : r ≡ after t t.did) where
+module _ (s : State) (line : List ℕ) (a b : List ℤ) (full : length line ≡ 160) (idle : is_busy s ≡ false) (t : Step) (r : State) (is : r ≡ after t) where
   ends : (e : Event) (n : ℕ) → Told e n a b t a b → Plain (step_of e n).did → mode_after e ≡ skipping
       → told (events (seen_by s.machine) (mode_of s.machine a b) (last_frame (take s.at line))) ≡ text_of e → Finished s line a b r
   unfolding owes later frames_from last_frame events told
   ends e n k plain skips q =
       let p : Plain t.did = rw k.answer plain in
-      let mode : mode_of r.machine a b ≡ skipping = ap (λ (z : State). mode_of z.machine a b) is ∙ ap (λ (m : Machine). mode_of m a b) (after_machine t t.did) ∙ k.mode ∙ skips in
-      let at : r.at ≡ 0 = ap (λ (z : State). z.at) is ∙ after_at t t.did in
-      let text : pending r a b ≡ text_of e = ap (λ (z : State). pending z a b) is ∙ after_text t t.did a b p ∙ sym (step_text t a b) ∙ ap text_of k.event in
+      let mode : mode_of r.machine a b ≡ skipping = ap (λ (z : State). mode_of z.machine a b) is ∙ k.mode ∙ skips in
+      let at : r.at ≡ 0 = ap (λ (z : State). z.at) is in
+      let text : pending r a b ≡ text_of e = ap (λ (z : State). pending z a b) is ∙ after_text t a b p ∙ ap text_of k.event in
       record {
         owed = simp (not_busy s a b idle) (q ∙ sym text ∙ sym (append-nil (pending r a b)) ∙ ap (λ (l : List ℕ). pending r a b ++ l) (sym (simp (at, mode))));
         ended = λ h. simp (at, mode);

@@ -15,9 +15,6 @@ use Rattle.sheet.specs.declared.state.State.{State}
 abbrev pub owing : Step → (due : Option Answer) → Option Route → State
 owing t due r = record { at = 0; machine = t.machine; cut = t.cut; due = due; route = r }
 
-abbrev pub quiet : Step → State
-quiet t = owing t None None
-
 -- the whole route of a line
 abbrev pub whole : Order → Numbers → Route
 whole o k = record { line = o.line; separation = k.separation; offset = k.lowest; wires = o.pairs; wire = 0; track = 0 }
@@ -25,10 +22,13 @@ whole o k = record { line = o.line; separation = k.separation; offset = k.lowest
 abbrev pub complete : Step → Order → Numbers → State
 complete t o k = owing t (Some (shown o.line k)) (cond (eqb k.refusal 0) (Some (whole o k)) None)
 
--- after a step that completes no line; one that does never comes here, and would be planned first
-abbrev pub after : Step → Did → State
-after t Opened = quiet t
-after t Filled = quiet t
-after t (Completed o) = quiet t
-after t (Refused l r) = owing t (Some (shown l (refusal_numbers r))) None
-after t Passed = quiet t
+-- the 20 that a step calls for that completes no line; one that does never comes here, and would be planned first
+abbrev pub due_after : Did → Option Answer
+due_after Opened = None
+due_after Filled = None
+due_after (Completed o) = None
+due_after (Refused l r) = Some (shown l (refusal_numbers r))
+due_after Passed = None
+
+abbrev pub after : Step → State
+after t = owing t (due_after t.did) None

@@ -77,11 +77,11 @@ impl State {
 
     // What a step calls for that completes no line.
     pub(crate) fn take_step(&mut self, t: Step)
-        ensures { self.new ≡ after t t.did }
+        ensures { self.new ≡ after t }
     {
         match t.did {
             Did::Refused(line, r) => self.owe(t, Some(show(line, Numbers::from(r))), None),
-            Did::Opened | Did::Filled | Did::Completed(_) | Did::Passed => self.owe(t, None, None),
+            _ => self.owe(t, None, None),
         }
     }
 
