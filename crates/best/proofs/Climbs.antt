@@ -1,16 +1,14 @@
 -- A level as `climb` works it out, over plain lists and the ladder l.
 use Rattle.std.specs.Prelude.{None}
-use mathlib.Core.Path.{◌≡◌, refl, ap, ◌∙◌}
-use mathlib.Core.List.{List, [], ◌∷◌, ◌++◌}
-use Prim.Native.Nat.{ℕ, suc, ◌+◌, ◌-◌, ◌*◌, ◌≤◌, ◌<◌}
+use mathlib.Core.Path.{◌≡◌, refl}
+use mathlib.Core.List.{List, ◌∷◌}
+use Prim.Native.Nat.{ℕ, suc, ◌+◌, ◌*◌, ◌≤◌, ◌<◌}
 use native.Mathlib.Omega.{arith}
-use borrow.Rule.Slice.PartMut.{mid_of, put_mid}
-use lib.ListN.{length, take, drop, length-drop, drop_of_length-le}
-use lib.Seq.{take_all, drop_at, drop-drop, length-take-le}
+use lib.ListN.{length, drop}
+use lib.Seq.{drop-drop}
 use lib.IntN.{ℤ}
-use Rattle.whole.proofs.Arith.{arithℤ}
 use Rattle.wiring.specs.Fit.{evens, half}
-use Rattle.best.specs.Halving.{taken, from_half, Halving, halving}
+use Rattle.best.specs.Halving.{from_half, halving}
 use Rattle.jumper.specs.Rows.{AcceptedRows}
 use Rattle.best.specs.Strides.{Strided}
 use Rattle.best.specs.Work.{level_entries, x_of, y_of, IsLevel, Halved}

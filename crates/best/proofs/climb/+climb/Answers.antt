@@ -1,4 +1,4 @@
-use Rattle.std.proofs.Common.{◌≡◌, ◌<◌, sym, length, arith}
+use Rattle.std.proofs.Common.{arith}
 use Rattle.best.specs.Work.{x_of, y_of}
 use Rattle.best.proofs.Levels.{some_levels, more_levels}
 use Rattle.best.proofs.Climbs.{one_halved, more_halved, over_next, by_evens}
