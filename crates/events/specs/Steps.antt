@@ -66,6 +66,10 @@ machine_at p seen = record { phase = p; seen = seen }
 abbrev pub inside_at : Order → (bottom top : ℕ) → Phase
 inside_at o i j = Inside (record { order = o; bottom = i; top = j })
 
+-- inside of a line
+abbrev pub within : OpenLine → (seen : ℕ) → Machine
+within p seen = machine_at (Inside p) seen
+
 abbrev pub step_to : Machine → Did → Step
 step_to m d = record { machine = m; cut = None; did = d }
 
