@@ -2,7 +2,7 @@
 -- Sections: an event that fits the lent rows; told; outside of a line; which frame was read; inside a line.
 use mathlib.Core.Path.{◌≡◌, refl, sym, ap, ◌∙◌, subst}
 use mathlib.Core.Bool.{Bool, true, false, cond, false≢true}
-use mathlib.Core.List.{List, [], ◌++◌}
+use mathlib.Core.List.{List, ◌++◌}
 use Prim.Native.Nat.{ℕ, ◌+◌, ◌-◌, ◌<◌, ◌≤◌}
 use native.Mathlib.Omega.{arith}
 use lib.Dec.{eqb, ltb, leb}
@@ -24,8 +24,8 @@ use Rattle.frame.proofs.Scan.{either}
 use Rattle.frame.specs.declared.read.Order.{Order}
 use Rattle.frame.specs.declared.read.Said.{Said}
 use Rattle.frame.specs.declared.read.Said.TheVariants.{Header, Bottom, Top}
-use Rattle.events.specs.Events.{Mode, ready, inside, skipping, Event, opens, fills, completes, refuses, cuts, passes, mode_after, headed, is_next, fills_bottom, fills_top, event, at_end, noted}
-use Rattle.events.specs.Steps.{fits, line_in, outside, mode_of, has_line, with_line, seen_by, seen_with, machine_at, inside_at, within, step_to, step_of, bottom_of, top_of, told_by, tells, Told, Stepped, Ended}
+use Rattle.events.specs.Events.{Mode, inside, Event, opens, fills, completes, refuses, cuts, passes, mode_after, headed, is_next, fills_bottom, fills_top, event, at_end, noted}
+use Rattle.events.specs.Steps.{fits, line_in, outside, mode_of, has_line, with_line, seen_by, seen_with, machine_at, inside_at, within, step_to, step_of, bottom_of, top_of, told_by, tells, Told, Stepped}
 use Rattle.events.specs.Parts.{missed, outside_event, framed, count_said, RowFilled, BottomPut, TopPut}
 use Rattle.events.specs.declared.machine.Machine.{Machine}
 use Rattle.events.specs.declared.machine.OpenLine.{OpenLine}
@@ -296,7 +296,7 @@ module _ (o : Order) (have l : ℕ) (columns row row' : List ℤ) where
   stopped : RowFilled o have l columns row None row' → (is_next o have l (length columns) ≡ false) × (row' ≡ row)
   stopped f =
       let e : is_next o have l (length columns) ≡ false =
-          either (is_next o have l (length columns)) (λ e. let n : None ≡ Some (have + length columns) = f.count ∙ (simp e) in cc) (λ e. e) in
+      either (is_next o have l (length columns)) (λ e. let n : None ≡ Some (have + length columns) = f.count ∙ (simp e) in cc) (λ e. e) in
       (e, f.put ∙ (simp e))
 
 module _ (p : OpenLine) (h : Held p) (seen : ℕ) (columns row : List ℤ) (l : ℕ) (t : Step) (row' : List ℤ) (full : length row ≡ 2048) where

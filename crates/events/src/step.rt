@@ -113,7 +113,13 @@ fn on_outside(m: Machine, said: Option<Said>) -> Step
 
 // Columns for a line go into a row of the open line that has some already, if they are next in it: how many it has then.
 #[tactic(auto, unfolding(crate::specs::Events::is_next))]
-fn fill(columns: &[i32], row: &mut [i32; MAX_PAIRS], order: Order, have: usize, line: u8) -> Option<usize>
+fn fill(
+    columns: &[i32],
+    row: &mut [i32; MAX_PAIRS],
+    order: Order,
+    have: usize,
+    line: u8,
+) -> Option<usize>
     requires { (have ≤ order.pairs) × (order.pairs ≤ max_pairs) }
     ensures { RowFilled order have line columns.now row.old result row.new }
 {
@@ -136,7 +142,11 @@ fn on_bottom(columns: &[i32], a: &mut [i32; MAX_PAIRS], w: Within, line: u8) -> 
     ensures { (b : List ℤ) → length b ≡ w.line.top → BottomPut w.line w.seen columns.now a.old b line result a.new }
 {
     match fill(columns, a, w.line.order, w.line.bottom, line) {
-        Some(bottom) => go(Phase::Inside(OpenLine { bottom, ..w.line }), w.seen, Did::Filled),
+        Some(bottom) => go(
+            Phase::Inside(OpenLine { bottom, ..w.line }),
+            w.seen,
+            Did::Filled,
+        ),
         None => refuse_open(w, Refusal::Sequence),
     }
 }
@@ -150,7 +160,11 @@ fn on_top(columns: &[i32], b: &mut [i32; MAX_PAIRS], w: Within, line: u8) -> Ste
     }
     match fill(columns, b, order, w.line.top, line) {
         Some(top) if top == order.pairs => go(Phase::Ready, w.seen, Did::Completed(order)),
-        Some(top) => go(Phase::Inside(OpenLine { top, ..w.line }), w.seen, Did::Filled),
+        Some(top) => go(
+            Phase::Inside(OpenLine { top, ..w.line }),
+            w.seen,
+            Did::Filled,
+        ),
         None => refuse_open(w, Refusal::Sequence),
     }
 }
