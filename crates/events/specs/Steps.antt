@@ -1,6 +1,6 @@
 -- What a machine stands for, which step tells an event, and what the calls promise. The machine is a phase and a number; the rows of the open line are
 -- in lent memory.
-use Rattle.std.specs.Prelude.{Bool, true, false, cond, ◌≡◌, List, [], ℕ, ◌/◌, ◌%◌, ◌^◌, ◌<◌, ◌≤◌, eqb, leb, length, take, ℤ, Option, None, Some}
+use Rattle.std.specs.Prelude.{Bool, false, cond, ◌≡◌, List, [], ℕ, ◌/◌, ◌%◌, ◌^◌, ◌<◌, ◌≤◌, eqb, leb, length, take, ℤ, Option, None, Some}
 use Rattle.std.specs.Int.Bits.{bit_or}
 use Rattle.jumper.specs.Limits.{max_pairs, max_lines}
 use Rattle.frame.specs.Frame.{Frame, said_of}
@@ -65,6 +65,10 @@ machine_at p seen = record { phase = p; seen = seen }
 
 abbrev pub inside_at : Order → (bottom top : ℕ) → Phase
 inside_at o i j = Inside (record { order = o; bottom = i; top = j })
+
+-- inside of a line
+abbrev pub within : OpenLine → (seen : ℕ) → Machine
+within p seen = machine_at (Inside p) seen
 
 abbrev pub step_to : Machine → Did → Step
 step_to m d = record { machine = m; cut = None; did = d }
