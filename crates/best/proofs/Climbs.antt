@@ -30,8 +30,8 @@ more_halved {m} {x} {y} {l} {r = r} more under c =
     record { level = rw (more_pairs m x y more) v; ladder = rw (more_pairs m x y more, v.best, under.ladder, drop-drop (length e.ladder) 2 l, n) refl }
 
 -- what e's even half came to, by the rule's name for it
-pub by_evens : (e o : Entries) → {l l' : List ℕ} {u : Level} → (o.rows ≡ e.rows) × (o.step ≡ 2 * e.step) × (o.len ≡ half e.len) → Halved o.len (x_of o) (y_of o) l l' u
-    → Halved (half e.len) (evens (x_of e)) (evens (y_of e)) l l' u
+pub by_evens : (e o : Entries) → {l l' : List ℕ} {u : Level} → (o.rows ≡ e.rows) × (o.step ≡ 2 * e.step) × (o.len ≡ half e.len)
+    → Halved o.len (x_of o) (y_of o) l l' u → Halved (half e.len) (evens (x_of e)) (evens (y_of e)) l l' u
 by_evens e o q h = rw (even_entries e.rows.now.bottom.now e.step, even_entries e.rows.now.top.now e.step) (rw (q.0, q.1, q.2) at h)
 
 -- and what entries came to says of the level over them
