@@ -22,7 +22,9 @@ use Rattle.whole.proofs.Arith.{arithℤ, ≤_or_<}
 use Rattle.whole.proofs.Order.{untrue, true_lt, false_lt, larger_law, smaller_law}
 use Rattle.wiring.specs.Wiring.{pad}
 use Rattle.route.specs.Table.{column_in}
-use Rattle.route.specs.Check.{rightmost, leftmost, WireClear, NoFault, RunsApart, ends_wrong}
+use Rattle.route.specs.Asked.{ends_wrong, Clear}
+use Rattle.route.specs.declared.checking.Table.{Table}
+use Rattle.route.specs.Check.{rightmost, leftmost, WireClear, NoFault, RunsApart}
 use Rattle.route.proofs.Faults.{ends_tell}
 
 -- what one comparison adds
@@ -118,11 +120,15 @@ module _ (n s : ℕ) (a c : ℕ → ℤ) (e : ℕ → ℕ → ℤ) (i : ℕ) whe
         let same = runs_same p (e i) q (e (suc i)) s here there in
         ((λ z. clear_of ((go _ tells).0 f) (λ h. same.0 (r.0 (eqb-true k 0 z)))), (λ w. eq-eqb k 0 (r.1 (same.1 (clear_runs l w)))))
 
-    pub clear_last : (last : Bool) → right ≡ true → last ≡ true → n ≤ suc i → (last ≡ true) ↔ WireClear n s a c e i
-    clear_last last f g l = ((λ z. clear_of ((go _ tells).0 f) (λ h. absurd (omega arith))), (λ w. g))
+    pub clear_last : right ≡ true → n ≤ suc i → (true ≡ true) ↔ WireClear n s a c e i
+    clear_last f l = ((λ z. clear_of ((go _ tells).0 f) (λ h. absurd (omega arith))), (λ w. refl))
 
-    pub unclear : right ≡ false → (right ≡ true) ↔ WireClear n s a c e i
-    unclear f = ((λ z. untrue (sym f ∙ z)), (λ w. absurd (ends_unclear ((go _ tells).1 f) w)))
+    pub unclear : right ≡ false → (false ≡ true) ↔ WireClear n s a c e i
+    unclear f = ((λ z. untrue z), (λ w. absurd (ends_unclear ((go _ tells).1 f) w)))
+
+-- what is found of a wire of a table is so of the table's wire
+pub same_clear : (t t' : Table) (i i' : ℕ) (r : Bool) → (t' ≡ t) × (i' ≡ i) → (r ≡ true) ↔ Clear t'.asked t'.columns.now i' → (r ≡ true) ↔ Clear t.asked t.columns.now i
+same_clear t t' i i' r same told = rw (← same.0, ← same.1) told
 
 -- all wires, as `all` asks them
 module _ (n s : ℕ) (a c : ℕ → ℤ) (e : ℕ → ℕ → ℤ) where
