@@ -83,9 +83,10 @@ unfolding column_in
 row_from table s i at k t e h = get_or-take k (drop at table) t (pos 0) h ∙ get_or-drop at table t (pos 0) ∙ rw e
 
 pub runs_same : (p p' q q' : ℕ → ℤ) (s : ℕ) → ((t : ℕ) → t ≤ s → p t ≡ p' t) → ((t : ℕ) → t ≤ s → q t ≡ q' t) → RunsApart p q s ↔ RunsApart p' q' s
-runs_same p p' q q' s f g =
-    (λ r t h. rw (← f t (omega arith), ← f (suc t) (omega arith), ← g t (omega arith), ← g (suc t) (omega arith)) (r t h),
-    λ r t h. rw (f t (omega arith), f (suc t) (omega arith), g t (omega arith), g (suc t) (omega arith)) (r t h))
+runs_same p p' q q' s f g = (
+  λ r t h. rw (← f t (omega arith), ← f (suc t) (omega arith), ← g t (omega arith), ← g (suc t) (omega arith)) (r t h),
+  λ r t h. rw (f t (omega arith), f (suc t) (omega arith), g t (omega arith), g (suc t) (omega arith)) (r t h),
+)
 
 -- A WIRE IS CLEAR when it starts and ends right, goes straight up from its pad, and its runs are to the left of the next wire's
 module _ (n s : ℕ) (a c : ℕ → ℤ) (e : ℕ → ℕ → ℤ) (i : ℕ) where
@@ -136,7 +137,7 @@ module _ (n s : ℕ) (a c : ℕ → ℤ) (e : ℕ → ℕ → ℤ) where
   asked i l = get_or-range_with_len 0 n i 0 l ∙ omega arith
 
   pub all_clear : (r : Bool) → MatchBool r (AllWithin (WireClear n s a c e) (range_with_len 0 n) 0 (length (range_with_len 0 n)))
-          ((k : ℕ) × (k < length (range_with_len 0 n)) × HoldsAt (λ i. WireClear n s a c e i → ⊥) (range_with_len 0 n) k)
+      ((k : ℕ) × (k < length (range_with_len 0 n)) × HoldsAt (λ i. WireClear n s a c e i → ⊥) (range_with_len 0 n) k)
       → (r ≡ true) ↔ NoFault n s a c e
   all_clear true h = ((λ z i l. subst (WireClear n s a c e) (asked i l) (h i 0 (omega arith) (omega (arith, length-range_with_len 0 n)))), (λ f. refl))
   all_clear false h =

@@ -20,7 +20,10 @@ pub fn check_route(a: &[i32], b: &[i32], s: usize, d: i32, table: &[i32]) -> Res
     if table.len() < places(a.len(), s) {
         return Err(Refusal::Buffer);
     }
-    let table = Table { asked, columns: table };
+    let table = Table {
+        asked,
+        columns: table,
+    };
     if table.is_faultless() {
         return Ok(());
     }
@@ -40,7 +43,10 @@ impl<'a> Table<'a> {
         requires { i < pairs self.asked }
         ensures { (result.table ≡ self.entry) × (result.wire ≡ i) }
     {
-        TableWire { table: self, wire: i }
+        TableWire {
+            table: self,
+            wire: i,
+        }
     }
 
     // The first wire with a fault on track t.
@@ -126,7 +132,8 @@ impl<'a> TableWire<'a> {
     fn end_wrong(self, t: usize) -> bool
         ensures { let q = self.entry.table.asked in result ≡ end_wrong q.separation (top q) (entered q self.entry.table.columns.now) t self.entry.wire }
     {
-        t == self.table.asked.separation && self.columns()[t] != top_pad(self.table.asked, self.wire)
+        t == self.table.asked.separation
+            && self.columns()[t] != top_pad(self.table.asked, self.wire)
     }
 
     #[tactic(auto, unfolding(crate::specs::Check::steps_aside))]
