@@ -1,4 +1,4 @@
--- The numbers that the code goes to are those of the event, and the event is read back from them.
+-- The step that the code goes to is that of the event, and the event is read back from it.
 -- Sections: an event that fits the lent rows; told; outside of a line; which frame was read; inside a line.
 use mathlib.Core.Path.{◌≡◌, refl, sym, ap, ◌∙◌, subst}
 use mathlib.Core.Bool.{Bool, true, false, cond, false≢true}

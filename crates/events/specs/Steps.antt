@@ -58,7 +58,7 @@ seen_with seen (Some (Header o)) = with_line seen o.line
 seen_with seen (Some (Bottom l k)) = seen
 seen_with seen (Some (Top l k)) = seen
 
--- ---- the numbers of an event
+-- ---- the step of an event
 
 abbrev pub machine_at : Phase → (seen : ℕ) → Machine
 machine_at p seen = record { phase = p; seen = seen }
@@ -130,7 +130,7 @@ pub record Begun (m : Machine) : Type 0 where
   pub mode : (a b : List ℤ) → mode_of m a b ≡ ready
   pub seen : (l : ℕ) → seen_by m l ≡ false
 
--- An event told: by these numbers, each lent row begins with the event's and is otherwise as it was; read back, with the rows, it is the event, and
+-- An event told: by this step, each lent row begins with the event's and is otherwise as it was; read back, with the rows, it is the event, and
 -- the machine is where the event leads. The pairs of a complete line are few enough for the lent rows.
 pub record Told (e : Event) (seen : ℕ) (a b : List ℤ) (t : Step) (a' b' : List ℤ) : Type 0 where
   pub answer : t ≡ step_of e seen

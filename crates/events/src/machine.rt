@@ -55,7 +55,7 @@ pub(crate) struct Within {
 }
 
 impl Machine {
-    #[tactic(auto, unfolding(crate::specs::Steps::line_in))]
+    #[tactic(auto, unfolding(crate::specs::Steps::fits, crate::specs::Steps::line_in))]
     pub(crate) fn within(self) -> Option<Within>
         ensures { MatchOption result (line_in self.phase ≡ None) (λ w. self ≡ within w.line w.seen) }
     {
