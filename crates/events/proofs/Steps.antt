@@ -105,12 +105,16 @@ module _ (a b : List ℤ) (n : ℕ) where
   module _ (e : Event) (h : Fit a b e) (t : Step) (a' b' : List ℤ) (p : a' ≡ puts a 0 (bottom_of e)) (q : b' ≡ puts b 0 (top_of e)) where
     fit_told : t ≡ step_of e n → Told e n a b t a' b'
     unfolding tells
-    fit_told i = rw (i, p, q) (record { answer = refl; bottom = refl; top = refl; event = simp (uncut e h, read_back e h); mode = leads e h; few = few_pairs e h })
+    fit_told i =
+        rw (i, p, q)
+        (record { answer = refl; bottom = refl; top = refl; event = simp (uncut e h, read_back e h); mode = leads e h; few = few_pairs e h })
 
     -- a header that cuts off line l
     cut_told : (l : ℕ) → t ≡ step_of (cuts l e) n → Told (cuts l e) n a b t a' b'
     unfolding tells
-    cut_told l i = rw (i, p, q) (record { answer = refl; bottom = refl; top = refl; event = ap (cuts l) (read_back e h); mode = leads e h; few = few_pairs e h })
+    cut_told l i =
+        rw (i, p, q)
+        (record { answer = refl; bottom = refl; top = refl; event = ap (cuts l) (read_back e h); mode = leads e h; few = few_pairs e h })
 
 step_seen : (e : Event) (n : ℕ) → (step_of e n).machine.seen ≡ n
 step_seen (opens o) n = refl
@@ -131,7 +135,10 @@ stepped : (m : Machine) (a b : List ℤ) (f : Frame) (e : Event) (t : Step) (a' 
 stepped m a b f e t a' b' q k =
     record {
       told = rw q k;
-      seen = λ l h. ap (λ (z : Step). has_line z.machine.seen l) k.answer ∙ ap (λ (z : ℕ). has_line z l) (step_seen e (seen_with m.seen (said_of f))) ∙ seen_noted m.seen f l h;
+      seen = λ l h.
+          ap (λ (z : Step). has_line z.machine.seen l) k.answer
+          ∙ ap (λ (z : ℕ). has_line z l) (step_seen e (seen_with m.seen (said_of f)))
+          ∙ seen_noted m.seen f l h;
     }
 
 -- ---- outside of a line
@@ -205,7 +212,8 @@ module _ (m : Machine) (a b : List ℤ) (out : line_in m.phase ≡ None) (t : St
   outside_stepped s cs i q =
       stepped m a b (framed s cs) (outside_event m.phase (seen_by m) s) t a b
       (ap (λ (x : Mode). event (seen_by m) x (framed s cs)) mode_outside ∙ outside_event_lem m.phase (seen_by m) s cs)
-      (bare_told a b _ _ t (outside_bare a b m.phase (seen_by m) s) (i ∙ ap (λ (z : Option Said). step_of (outside_event m.phase (seen_by m) s) (seen_with m.seen z)) q))
+      (bare_told a b _ _ t (outside_bare a b m.phase (seen_by m) s)
+      (i ∙ ap (λ (z : Option Said). step_of (outside_event m.phase (seen_by m) s) (seen_with m.seen z)) q))
 
   pub outside_end : t ≡ step_of passes m.seen → Told (at_end (mode_of m a b)) m.seen a b t a b
   outside_end i = rw (mode_outside, end_outside m.phase) (bare_told a b _ _ t (passes_bare a b) i)
@@ -247,7 +255,8 @@ framed_back (header o) columns h = refl
 framed_back (bottom l cs) columns h = ap (bottom l) (sym h)
 framed_back (top l cs) columns h = ap (top l) (sym h)
 
-pub read_frame : (text : List ℕ) (columns columns' : List ℤ) (r : Option Said) → length columns ≡ 16 → ReadIn (text_frame text) columns r columns' → text_frame text ≡ framed r columns'
+pub read_frame : (text : List ℕ) (columns columns' : List ℤ) (r : Option Said) → length columns ≡ 16 → ReadIn (text_frame text) columns r columns'
+    → text_frame text ≡ framed r columns'
 read_frame text columns columns' r n h =
     let cs : List ℤ = columns_of (text_frame text) in
     let m = few_all (text_frame text) (few text) in
@@ -269,7 +278,8 @@ held p h =
     record { bottom = leb-true _ _ x.0; top = leb-true _ _ y.0; few = leb-true _ _ y.1 }
 
 -- columns written into a row
-pub stored : (row columns : List ℤ) (have : ℕ) → have + length columns ≤ length row → put_mid have (have + length columns - have) row columns ≡ puts row have columns
+pub stored : (row columns : List ℤ) (have : ℕ) → have + length columns ≤ length row
+    → put_mid have (have + length columns - have) row columns ≡ puts row have columns
 stored row columns have h =
     ap (λ (rest : List ℤ). take have row ++ (columns ++ rest)) (Post-is have (have + length columns) row (omega arith)) ∙ sym (puts_is row have columns h)
 
@@ -290,7 +300,8 @@ next o have l k e = leb-true _ _ (both (eqb l o.line) (leb (have + k) o.pairs) e
 
 -- columns were next in a row, or weren't
 module _ (o : Order) (have l : ℕ) (columns row row' : List ℤ) where
-  went : (n : ℕ) → RowFilled o have l columns row (Some n) row' → (is_next o have l (length columns) ≡ true) × (have + length columns ≡ n) × (row' ≡ puts row have columns)
+  went : (n : ℕ) → RowFilled o have l columns row (Some n) row'
+      → (is_next o have l (length columns) ≡ true) × (have + length columns ≡ n) × (row' ≡ puts row have columns)
   went n f = let c = cond_some _ _ _ (sym f.count) in let e = c.0 in (e, c.1, f.put ∙ (simp e))
 
   stopped : RowFilled o have l columns row None row' → (is_next o have l (length columns) ≡ false) × (row' ≡ row)
@@ -315,7 +326,8 @@ module _ (p : OpenLine) (h : Held p) (seen : ℕ) (columns row : List ℤ) (l : 
           put = w.2 ∙ sym (simp (had, e) (after row p.bottom columns (omega arith)));
         }
 
-    pub bottom_out : RowFilled p.order p.bottom l columns row None row' → t ≡ step_of (refuses p.order.line Sequence) seen → BottomPut p seen columns row b l t row'
+    pub bottom_out : RowFilled p.order p.bottom l columns row None row' → t ≡ step_of (refuses p.order.line Sequence) seen
+        → BottomPut p seen columns row b l t row'
     unfolding fills_bottom puts
     bottom_out f i =
         let w = stopped p.order p.bottom l columns row row' f in
@@ -375,7 +387,8 @@ module _ (p : OpenLine) (n : ℕ) (ok : fits p ≡ true) (a b : List ℤ) (la : 
   highs : length (take p.top b) ≡ p.top
   highs = let g = h in length-take-le p.top b (omega arith)
 
-  pub inside_header : (o : Order) (t : Step) → t ≡ step_of (cuts p.order.line (headed (has_line n) o)) (with_line n o.line) → Stepped (within p n) a b (header o) t a b
+  pub inside_header : (o : Order) (t : Step) → t ≡ step_of (cuts p.order.line (headed (has_line n) o)) (with_line n o.line)
+      → Stepped (within p n) a b (header o) t a b
   unfolding event
   inside_header o t i =
       let k = headed_bare a b (has_line n) o in
@@ -396,7 +409,8 @@ module _ (p : OpenLine) (n : ℕ) (ok : fits p ≡ true) (a b : List ℤ) (la : 
         either (is_next p.order (length (take p.bottom a)) l (length cs))
         (λ e.
         let z = next p.order (length (take p.bottom a)) l (length cs) e in
-        rw e (record { few = g.few; low = simp length-append z; high = simp highs g.top; low_room = simp length-append (omega arith); high_room = simp highs (omega arith) }))
+        rw e
+        (record { few = g.few; low = simp length-append z; high = simp highs g.top; low_room = simp length-append (omega arith); high_room = simp highs (omega arith) }))
         (λ e. rw e tt)
 
     low_keeps : b ≡ puts b 0 (top_of low_event)
@@ -431,14 +445,16 @@ module _ (p : OpenLine) (n : ℕ) (ok : fits p ≡ true) (a b : List ℤ) (la : 
         (λ q. rw (e, q) (sym (own a p.bottom (omega arith)))))
         (λ e. rw e)
 
-  pub inside_bottom : (l : ℕ) (cs : List ℤ) (t : Step) (a' : List ℤ) → ((B : List ℤ) → length B ≡ p.top → BottomPut p n cs a B l t a') → Stepped (within p n) a b (bottom l cs) t a' b
+  pub inside_bottom : (l : ℕ) (cs : List ℤ) (t : Step) (a' : List ℤ) → ((B : List ℤ) → length B ≡ p.top → BottomPut p n cs a B l t a')
+      → Stepped (within p n) a b (bottom l cs) t a' b
   unfolding event
   inside_bottom l cs t a' f =
       let k = f (take p.top b) highs in
       stepped (within p n) a b (bottom l cs) (low_event l cs) t a' b (rw (mode_inside p n ok a b))
       (fit_told a b _ (low_event l cs) (low_fit l cs) t a' b k.put (low_keeps l cs) k.answer)
 
-  pub inside_top : (l : ℕ) (cs : List ℤ) (t : Step) (b' : List ℤ) → ((A : List ℤ) → length A ≡ p.bottom → TopPut p n cs A b l t b') → Stepped (within p n) a b (top l cs) t a b'
+  pub inside_top : (l : ℕ) (cs : List ℤ) (t : Step) (b' : List ℤ) → ((A : List ℤ) → length A ≡ p.bottom → TopPut p n cs A b l t b')
+      → Stepped (within p n) a b (top l cs) t a b'
   unfolding event
   inside_top l cs t b' f =
       let k = f (take p.bottom a) lows in

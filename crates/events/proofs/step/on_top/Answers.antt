@@ -14,7 +14,8 @@ returns-in-Some c =
 
 pub returns-in-Some-2 : goal.returns-in-Some-2
 returns-in-Some-2 c =
-    λ a tall. top_in c.args.w.line (held _ c.args.w.held) _ _ _ _ _ _ c.told-b a tall c.if-w-order.false _ c.in-Some.ensures (λ q. omega arith) c.go-in-Some-2.ensures
+    λ a tall. top_in c.args.w.line (held _ c.args.w.held) _ _ _ _ _ _ c.told-b a tall c.if-w-order.false _ c.in-Some.ensures
+    (λ q. omega arith) c.go-in-Some-2.ensures
 
 pub returns-in-None : goal.returns-in-None
 returns-in-None c =
