@@ -1,5 +1,5 @@
 -- What a good frame has, and how the reader's steps come to the definition.
-use Rattle.std.proofs.Common.{◌≡◌, ℕ, zero, suc, ◌+◌, ◌-◌, ◌*◌, ◌/◌, ◌%◌, ◌<◌, ◌≤◌, Bool, true, false, cond, eqb, leb, List, [], ◌∷◌, ◌++◌, length, get_or, take, drop, ℤ, pos, Option, Some, None, sym, refl, ap, ◌∙◌, arith, zero-add, drop-cons, drop_of_length-le, length-append, lt-ltb, eq-eqb, ne_eqb, eqb-true, le-leb, leb-true}
+use Rattle.std.proofs.Common.{◌≡◌, ℕ, ◌+◌, ◌-◌, ◌*◌, ◌%◌, ◌<◌, ◌≤◌, Bool, true, false, cond, eqb, leb, List, [], ◌∷◌, ◌++◌, length, get_or, take, drop, ℤ, pos, Option, Some, None, sym, refl, ap, ◌∙◌, arith, zero-add, drop-cons, drop_of_length-le, length-append, lt-ltb, eq-eqb, ne_eqb, eqb-true, le-leb, leb-true}
 use mathlib.Core.Bool.{false≢true}
 use lib.Pointwise.{pointwise}
 use lib.Seq.{take-append_seam, get_or-append_seam}
@@ -9,7 +9,7 @@ use Rattle.std.specs.Option.{option_map}
 use Rattle.frame.specs.Hex.{bytes_of, is_sound, Decoded}
 use Rattle.frame.specs.Frame.{Frame, bad, header, bottom, top, one, four, fours, header_of, count_of, carrier_of, kind_of, text_frame, is_fed, frame_of, said_of, columns_of}
 use Rattle.frame.specs.declared.read.Said.{Said}
-use Rattle.frame.specs.declared.read.Said.TheVariants.{Header, Bottom, Top}
+use Rattle.frame.specs.declared.read.Said.TheVariants.{Bottom, Top}
 use Rattle.frame.specs.Puts.{puts, Carried, ReadIn}
 use Rattle.frame.proofs.Scan.{either, bytes_length}
 use Rattle.frame.proofs.Puts.{puts_is, fours_length, get_or_fours}
@@ -257,7 +257,7 @@ fed_is [] = refl
 fed_is (b ∷ bs) =
     let n : length bs < length (b ∷ bs) = omega arith in
     let d : drop (length bs) (b ∷ bs) ≡ get_or (b ∷ bs) (length bs) 0 ∷ [] =
-        drop-cons (b ∷ bs) (length bs) 0 n ∙ ap (λ (l : List ℕ). get_or (b ∷ bs) (length bs) 0 ∷ l) (drop_of_length-le bs (omega arith)) in
+    drop-cons (b ∷ bs) (length bs) 0 n ∙ ap (λ (l : List ℕ). get_or (b ∷ bs) (length bs) 0 ∷ l) (drop_of_length-le bs (omega arith)) in
     let z : 0 < length (b ∷ bs) = omega arith in
     let m : length (b ∷ bs) - 1 ≡ length bs = omega arith in
     either (eqb (get_or (b ∷ bs) (length bs) 0) 10) (λ e. simp (lt-ltb _ _ z, m, d, e)) (λ e. simp (lt-ltb _ _ z, m, d, e))

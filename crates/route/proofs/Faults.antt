@@ -21,8 +21,9 @@ use Rattle.jumper.proofs.Accepted.{refused_not}
 use Rattle.jumper.specs.declared.refusal.Refusal.{Refusal}
 use Rattle.jumper.specs.declared.refusal.Refusal.TheVariants.{BadWire}
 use Rattle.jumper.specs.Rows.{Checked}
+use Rattle.route.specs.Asked.{ends_wrong, FirstWire}
 use Rattle.route.specs.Check.{rightmost, leftmost, WrongStart, WrongEnd, StepsAside, Touching, Fault, NoFault, FirstFault}
-use Rattle.route.specs.Check.{FirstWire, ends_wrong, start_wrong, end_wrong, steps_aside, run_touches, fault_at, wire_fault, track_fault}
+use Rattle.route.specs.Check.{start_wrong, end_wrong, steps_aside, run_touches, fault_at, wire_fault, track_fault}
 
 -- WHAT A TEST TELLS
 pub record Tells (t : Bool) (P : Type 0) : Type 0 where
@@ -118,15 +119,6 @@ module _ (n s : ℕ) (a c : ℕ → ℤ) (e : ℕ → ℕ → ℤ) (t i : ℕ) w
   touches_top h = rw (le-ltb t s h)
 
 -- THE SEARCH, a step at a time
-module _ (wrong : ℕ → Bool) (t n i : ℕ) where
-  pub wire_next : i < n → wrong i ≡ false → wire_fault wrong t i (n - i) ≡ wire_fault wrong t (i + 1) (n - (i + 1))
-  unfolding wire_fault
-  wire_next h k = let e : n - i ≡ suc (n - (i + 1)) = omega arith in rw (e, k, add-one)
-
-  pub wire_done : n ≤ i → wire_fault wrong t i (n - i) ≡ Ok tt
-  unfolding wire_fault
-  wire_done h = let e : n - i ≡ 0 = omega arith in rw e
-
 module _ (wrong : ℕ → ℕ → Bool) (n m t : ℕ) where
   pub track_found : (r : Refusal) → t < m → wire_fault (wrong t) t 0 n ≡ Err r → track_fault wrong n t (m - t) ≡ Err r
   unfolding track_fault

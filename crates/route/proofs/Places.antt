@@ -8,8 +8,8 @@ use native.Mathlib.Nat.{suc-mul, mul-le-mul_right, eq-or-lt_of_le, add-suc, add-
 use native.Mathlib.Numerals.{add-one}
 use native.Mathlib.Omega.{arith}
 use Rattle.std.proofs.lemmas.List.{take_more, take-append-drop}
-use lib.ListN.{length, get_or, take, drop, set, length-append, length-drop, drop_of_length-le}
-use lib.Seq.{drop-cons, drop-drop, take_all, take_at, drop_at, set_at, get_or-append-add}
+use lib.ListN.{length, get_or, take, drop, length-append, length-drop, drop_of_length-le}
+use lib.Seq.{drop-drop, take_all, take_at, drop_at, get_or-append-add}
 use lib.IntN.{ℤ, pos}
 use Rattle.route.specs.Table.{column_in, columns, wires}
 
