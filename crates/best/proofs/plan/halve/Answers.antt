@@ -5,9 +5,6 @@ use Rattle.best.proofs.plan.halve.Goals as goal
 pub kept_or_read-requires-clause-inside : goal.kept_or_read-requires-clause-inside
 kept_or_read-requires-clause-inside c = best_inside c.whole-entries.result _ _ _ c.climb-level.ensures
 
-pub kept_or_read-requires-clause-kept : goal.kept_or_read-requires-clause-kept
-kept_or_read-requires-clause-kept c = rw c.climb-level.ensures.level.best c.climb-level.ensures.level.kept
-
 pub returns : goal.returns
 returns c =
     let e = c.whole-entries in
