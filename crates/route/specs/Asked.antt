@@ -3,6 +3,9 @@ use Rattle.std.specs.Prelude.{Option, MatchOption, Bool, true, cond, Ok, Err, �
 use Rattle.wiring.specs.Wiring.{pad, top_pad}
 use Rattle.jumper.specs.declared.asked.Question.{Question}
 use Rattle.jumper.specs.declared.refusal.Refusal.TheVariants.{BadWire}
+use Rattle.jumper.specs.Rows.{Checked}
+use Rattle.jumper.specs.Asked.{check_asked}
+use Rattle.fit.specs.Misfit.{FitAnswer}
 use Rattle.route.specs.Table.{column_in}
 use Rattle.route.specs.Check.{WireClear, NoFault, start_wrong, end_wrong, steps_aside, fault_of, wire_fault}
 
@@ -37,3 +40,9 @@ ends_wrong s a c e i = cond (start_wrong a e 0 i) true (cond (end_wrong s c e s 
 -- `found` is the first of n wires with a fault on track t
 abbrev pub FirstWire : (wrong : ℕ → Bool) (t n : ℕ) (found : Option ℕ) → Type 0
 FirstWire wrong t n found = MatchOption found (wire_fault wrong t 0 n ≡ Ok tt) (λ i. wire_fault wrong t 0 n ≡ Err (BadWire i t))
+
+-- what a drawing asks first: of what is accepted, the same rows, separation and offset, and what `fit` says of them
+pub record FitAsked (a b : List ℤ) (s : ℕ) (d : ℤ) (q : Question) (r : Checked) : Type 0 where
+  pub same : (q.rows.bottom.now ≡ a) × (q.rows.top.now ≡ b) × (q.separation ≡ s) × (q.offset ≡ d)
+  pub accepted : check_asked a b s d ≡ Ok tt
+  pub fits : FitAnswer a b s d r

@@ -103,7 +103,8 @@ impl<'a> TableWire<'a> {
     // The columns on which it enters tracks 0 to s.
     fn columns(self) -> &'a [i32]
         ensures len { length result.now ≡ self.entry.table.asked.separation + 1 }
-        ensures columns { (t : ℕ) → t ≤ self.entry.table.asked.separation → pad result.now t ≡ entered self.entry.table.asked self.entry.table.columns.now self.entry.wire t }
+        ensures columns { let q = self.entry.table.asked in
+            (t : ℕ) → t ≤ q.separation → pad result.now t ≡ entered q self.entry.table.columns.now self.entry.wire t }
     {
         let s = self.table.asked.separation;
         let at = places(self.wire, s);
@@ -114,7 +115,8 @@ impl<'a> TableWire<'a> {
     #[tactic(auto, using(crate::proofs::Wires::extremes))]
     fn run(self, t: usize) -> (i32, i32)
         requires { t < self.table.asked.separation }
-        ensures { let e = entered self.entry.table.asked self.entry.table.columns.now in (result.0 ≡ leftmost e self.entry.wire t) × (result.1 ≡ rightmost e self.entry.wire t) }
+        ensures { let e = entered self.entry.table.asked self.entry.table.columns.now in
+            (result.0 ≡ leftmost e self.entry.wire t) × (result.1 ≡ rightmost e self.entry.wire t) }
     {
         let columns = self.columns();
         let (enters, leaves) = (columns[t], columns[t + 1]);
@@ -174,7 +176,8 @@ impl<'a> TableWire<'a> {
 
     // Whether it starts and ends on its pads, and leaves the lower one straight up.
     fn ends_right(self) -> bool
-        ensures { let q = self.entry.table.asked in result ≡ not (ends_wrong q.separation (bottom q) (top q) (entered q self.entry.table.columns.now) self.entry.wire) }
+        ensures { let q = self.entry.table.asked in
+            result ≡ not (ends_wrong q.separation (bottom q) (top q) (entered q self.entry.table.columns.now) self.entry.wire) }
     {
         !(self.start_wrong(0) || self.end_wrong(self.table.asked.separation) || self.steps_aside(0))
     }

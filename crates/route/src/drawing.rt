@@ -5,7 +5,8 @@ ghost use Rattle.wiring.specs.Drawing.{entry};
 ghost use Rattle.jumper.specs.Limits.{max_pairs, max_tracks};
 ghost use Rattle.jumper.specs.Asked.{check_asked, Asked};
 ghost use Rattle.route.specs.Table.{columns};
-ghost use Rattle.route.specs.Draw.{wire_drawn, all_drawn, DrawWireAnswer, DrawAllAnswer, FitAsked};
+ghost use Rattle.route.specs.Draw.{wire_drawn, all_drawn, DrawWireAnswer, DrawAllAnswer};
+ghost use Rattle.route.specs.Asked.{FitAsked};
 
 use crate::column::Wire;
 use fit::misfit::fit;
@@ -56,7 +57,7 @@ fn asked<'a>(
     s: usize,
     d: i32,
 ) -> Result<(Question<'a>, Result<(), Refusal>), Refusal>
-    ensures ok { IfOk result (λ p. FitAsked a.now b.now s d p.0.rows.bottom.now p.0.rows.top.now p.0.separation p.0.offset p.1) }
+    ensures ok { IfOk result (λ p. FitAsked a.now b.now s d p.0 p.1) }
     ensures err { IfErr result (λ r. check_asked a.now b.now s d ≡ Err r) }
 {
     match fit(a, b, s, d) {

@@ -75,7 +75,8 @@ impl Moves<'_> {
     // The wires from `wire` and its `track` on.
     fn give(self, wire: usize, track: usize, writer: &mut Writer<'_>) -> Reached
         ensures same { (writer.new.out.ghost_name ≡ writer.old.out.ghost_name) × (length writer.new.out.now ≡ length writer.old.out.now) }
-        ensures wrote { RouteOut self.entry.line self.entry.asked wire track writer.old.out.now writer.old.at result.wire result.track result.at writer.new.out.now }
+        ensures wrote { RouteOut self.entry.line self.entry.asked wire track writer.old.out.now writer.old.at
+            result.wire result.track result.at writer.new.out.now }
     {
         let n = self.asked.rows.bottom.len();
         let mut next = track;
@@ -96,7 +97,8 @@ impl Moves<'_> {
         }
     }
 
-    // One wire from track `track` on; the track that is next where there was no room for its frame. A wire that has come to the column of its top pad stays there.
+    // One wire from track `track` on; the track that is next, where there was no room for its frame. A wire that has come to the column of its top pad
+    // stays there.
     fn give_wire(self, i: usize, track: usize, writer: &mut Writer<'_>) -> Option<usize>
         requires { i < length self.asked.rows.bottom.now }
         ensures same { (writer.new.out.ghost_name ≡ writer.old.out.ghost_name) × (length writer.new.out.now ≡ length writer.old.out.now) }

@@ -15,4 +15,4 @@ returns-in_err-fits c =
 pub returns : goal.returns
 returns c =
     let f = rw (to_z-of_z w32 c.args.d c.ranges.d) at c.in_ok-q.ensures.ok in
-    all_done_lem _ _ _ _ _ f.accepted (rw c.places.ensures at c.if-out-places.false) _ (rw (f.bottom, f.top, f.separation, f.offset) at c.draw_wires.ensures) (rw c.in_ok-fits.was at f.fits)
+    all_done_lem _ _ _ _ _ f.accepted (rw c.places.ensures at c.if-out-places.false) _ (rw (f.same.0, f.same.1, f.same.2, f.same.3) at c.draw_wires.ensures) (rw c.in_ok-fits.was at f.fits)
