@@ -1,6 +1,5 @@
 // One line's record, an order and its answer, answered by value.
-ghost use Rattle.std.specs.Prelude.{◌≡◌, ◌+◌, ◌<◌, ◌≤◌, length, MatchOption, MatchResult};
-ghost use Rattle.jumper.specs.Refusals.{refusal_numbers};
+ghost use Rattle.std.specs.Prelude.{◌≡◌, ◌+◌, ◌<◌, ◌≤◌, length, MatchOption};
 ghost use Rattle.form.specs.Line.{pads_of, with_answer, LineAnswer};
 
 use jumper::refusal::{Numbers, Refusal};
@@ -37,15 +36,17 @@ fn pads(pool: &[i32], start: usize, pairs: usize) -> Option<&[i32]>
 }
 
 // What a line is answered: LINE where its pads aren't in the pools, else what its wish is.
-fn answer(line: Line, pool_a: &[i32], pool_b: &[i32]) -> Result<Numbers, Refusal>
-    ensures { MatchResult result
-        (λ told. LineAnswer line pool_a.now pool_b.now (with_answer line told))
-        (λ r. LineAnswer line pool_a.now pool_b.now (with_answer line (refusal_numbers r))) }
+fn answer(line: Line, pool_a: &[i32], pool_b: &[i32]) -> Numbers
+    ensures { LineAnswer line pool_a.now pool_b.now (with_answer line result) }
 {
     let order = line.order;
-    let a = pads(pool_a, order.bottom, order.pairs).ok_or(Refusal::Line)?;
-    let b = pads(pool_b, order.top, order.pairs).ok_or(Refusal::Line)?;
-    Ok(plan(wish_of(order.separation, order.offset), a, b))
+    let Some(a) = pads(pool_a, order.bottom, order.pairs) else {
+        return Numbers::from(Refusal::Line);
+    };
+    let Some(b) = pads(pool_b, order.top, order.pairs) else {
+        return Numbers::from(Refusal::Line);
+    };
+    plan(wish_of(order.separation, order.offset), a, b)
 }
 
 // The record with its answer, its order as it was.
@@ -53,7 +54,7 @@ pub fn answered(line: Line, pool_a: &[i32], pool_b: &[i32]) -> Line
     ensures { LineAnswer line pool_a.now pool_b.now result }
 {
     Line {
-        answer: Numbers::from(answer(line, pool_a, pool_b)),
+        answer: answer(line, pool_a, pool_b),
         ..line
     }
 }

@@ -12,8 +12,8 @@ pub(crate) fn keep_pads<'a>(row: &[i32], stays: &[u8], out: &'a mut [i32]) -> &'
     ensures { result.now ≡ row_kept stays.now row.now }
 {
     let mut at = 0;
-    for (&pad, &stay) in row.iter().zip(stays) {
-        out[at] = pad;
+    for (k, &stay) in stays.iter().enumerate() {
+        out[at] = row[k];
         at += usize::from(stay != 0);
     }
     &out[..at]

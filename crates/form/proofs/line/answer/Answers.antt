@@ -6,4 +6,4 @@ use Rattle.form.proofs.line.answer.Goals as goal
 pub returns : goal.returns
 returns c =
     let e = to_z-of_z w32 c.args.line.order.offset (search rules) in
-    line_planned _ _ _ _ _ _ _ (rw c.in_ok-a.ensures.ok_part at c.pads.ensures) (rw c.in_ok-b.ensures.ok_part at c.pads-2.ensures) (rw e at c.wish_of.ensures) c.plan.ensures
+    line_planned _ _ _ _ _ _ _ c.in-Some.ensures c.in-Some-pads.ensures (rw e at c.wish_of.ensures) c.plan.ensures
