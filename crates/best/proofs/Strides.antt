@@ -2,25 +2,28 @@
 use mathlib.Core.Path.{◌≡◌, sym, ◌∙◌, fun_ext}
 use mathlib.Core.List.{List}
 use Prim.Native.Nat.{ℕ, ◌+◌, ◌-◌, ◌*◌, ◌≤◌, ◌<◌, ◌^◌}
-use native.Mathlib.Nat.{one-mul, mul-add, mul_assoc, mul_left_comm, mul-le-mul_left, le-mul_of_pos_right}
+use native.Mathlib.Nat.{one-mul, mul-add, mul_assoc, mul_left_comm, mul-le-mul_left}
 use native.Mathlib.Omega.{arith}
 use lib.ListN.{length}
 use lib.IntN.{ℤ, pos, neg_ℤ, ◌+ℤ◌, ◌-ℤ◌, nat_abs}
 use lib.Signed.{mag}
+use mir.Syntax.{w32}
+use mir.Val.{to_z, of_z, SFits}
+use Rattle.std.proofs.lemmas.Int.{to_z_pos}
 use Rattle.whole.specs.Pick.{largest_at, smallest_at, largest, smallest}
 use Rattle.whole.proofs.Arith.{arithℤ, dif, sum}
-use Rattle.whole.proofs.Machine.{abs_sum, abs_dif, fits32}
+use Rattle.whole.proofs.Machine.{back, abs_sum, abs_dif, fits32}
 use Rattle.whole.proofs.Extremes.{largest_further, smallest_further}
 use Rattle.wiring.specs.Wiring.{pad}
-use Rattle.wiring.specs.Fit.{lean_of, Rising, Steady, low_end, high_end, evens, half}
+use Rattle.wiring.specs.Fit.{lean_of, Rising, Steady, low_end, high_end, evens}
 use Rattle.wiring.proofs.Rule.{lean_steady}
-use Rattle.jumper.specs.Limits.{max_pairs}
 use Rattle.jumper.specs.Rows.{AcceptedRows}
 use Rattle.jumper.specs.Span.{range_of}
 use Rattle.jumper.specs.declared.range.OffsetRange.{OffsetRange}
 use Rattle.jumper.proofs.Accepted.{near}
 use Rattle.best.specs.Strides.{Strided}
-use Rattle.best.specs.Work.{level_entries, low_read, high_read, read_of, Readable}
+use Rattle.best.specs.declared.entries.Entries.{Entries}
+use Rattle.best.specs.Work.{level_entries, x_of, y_of, low_read, high_read, read_of}
 
 -- at stride 1 they are x and y
 pub whole_entries : (a : List ℤ) → level_entries a 1 ≡ lean_of a
@@ -98,19 +101,51 @@ module _ (a b : List ℤ) (p s : ℕ) where
   high_from : (m : ℕ) → smallest highs (m - s - 1) -ℤ pos (p * s) ≡ (range_of m x y s).high
   high_from m = rw (smallest_further (high_end x y s) highs (neg_ℤ (pos (p * s))) high_is (m - s - 1)) (sym (high_is (smallest_at highs (m - s - 1))))
 
-  -- as a trial works them out from what is read
-  module _ (m : ℕ) (r : AcceptedRows a b) (t : Strided (length a) p m) (h : s < m) (g : OffsetRange) (e : g ≡ read_of a b p (p * s) (m - s)) where
-    pub low_fits : mag (g.low +ℤ pos (p * s)) < 2 ^ 31
-    low_fits =
-        let k = p * largest_at lows (m - s - 1) in
-        let d = pad a k -ℤ pad b (k + p * s) in
-        rw e (fits32 (d +ℤ pos (p * s)) (omega (arith, abs_sum d (pos (p * s)), near_difference r k (k + p * s), inside_row t s h, r.few)))
+-- as a trial works them out, from what is read and in an i32
+module _ (e : Entries) (s : ℕ) (h : s < e.len) (g : OffsetRange)
+    (q : g ≡ read_of e.rows.now.bottom.now e.rows.now.top.now e.step (e.step * s) (e.len - s)) where
+  abbrev a : List ℤ
+  a = e.rows.now.bottom.now
 
-    pub high_fits : mag (g.high -ℤ pos (p * s)) < 2 ^ 31
-    high_fits =
-        let k = p * smallest_at highs (m - s - 1) in
-        let d = pad a (k + p * s) -ℤ pad b k in
-        rw e (fits32 (d -ℤ pos (p * s)) (omega (arith, abs_dif d (pos (p * s)), near_difference r (k + p * s) k, inside_row t s h, r.few)))
+  abbrev b : List ℤ
+  b = e.rows.now.top.now
 
-    pub range_read : ◌≡◌ {A = OffsetRange} (record { low = g.low +ℤ pos (p * s); high = g.high -ℤ pos (p * s) }) (range_of m x y s)
-    range_read = rw e (rw (low_from m, high_from m))
+  abbrev z : ℤ
+  z = pos (e.step * s)
+
+  shift : to_z w32 (e.step * s) ≡ z
+  shift = to_z_pos w32 (e.step * s) (omega (arith, inside_row e.strided s h, e.rows.now.accepted.few))
+
+  low_near : nat_abs g.low ≤ 2000000
+  low_near = let k = e.step * largest_at (low_read a b e.step (e.step * s)) (e.len - s - 1) in rw q (near_difference e.rows.now.accepted k (k + e.step * s))
+
+  high_near : nat_abs g.high ≤ 2000000
+  high_near = let k = e.step * smallest_at (high_read a b e.step (e.step * s)) (e.len - s - 1) in rw q (near_difference e.rows.now.accepted (k + e.step * s) k)
+
+  low_inside : mag (g.low +ℤ z) < 2 ^ 31
+  low_inside = fits32 (g.low +ℤ z) (omega (arith, abs_sum g.low z, low_near, inside_row e.strided s h, e.rows.now.accepted.few))
+
+  high_inside : mag (g.high -ℤ z) < 2 ^ 31
+  high_inside = fits32 (g.high -ℤ z) (omega (arith, abs_dif g.high z, high_near, inside_row e.strided s h, e.rows.now.accepted.few))
+
+  low_shown : to_z w32 (of_z w32 g.low) ≡ g.low
+  low_shown = back g.low (fits32 g.low (omega (arith, low_near)))
+
+  high_shown : to_z w32 (of_z w32 g.high) ≡ g.high
+  high_shown = back g.high (fits32 g.high (omega (arith, high_near)))
+
+  pub low_fits : SFits w32 (to_z w32 (of_z w32 g.low) +ℤ to_z w32 (e.step * s))
+  low_fits = rw (low_shown, shift) (record { sfits = low_inside })
+
+  pub high_fits : SFits w32 (to_z w32 (of_z w32 g.high) -ℤ to_z w32 (e.step * s))
+  high_fits = rw (high_shown, shift) (record { sfits = high_inside })
+
+  pub range_read : ◌≡◌ {A = OffsetRange}
+      (record {
+        low = to_z w32 (of_z w32 (to_z w32 (of_z w32 g.low) +ℤ to_z w32 (e.step * s)));
+        high = to_z w32 (of_z w32 (to_z w32 (of_z w32 g.high) -ℤ to_z w32 (e.step * s)));
+      })
+      (range_of e.len (x_of e) (y_of e) s)
+  range_read =
+      rw (low_shown, high_shown, shift, back (g.low +ℤ z) low_inside, back (g.high -ℤ z) high_inside)
+      (rw q (rw (low_from a b e.step s e.len, high_from a b e.step s e.len)))

@@ -1,5 +1,5 @@
 -- What a good frame has, and how the reader's steps come to the definition.
-use Rattle.std.proofs.Common.{◌≡◌, ℕ, zero, suc, ◌+◌, ◌-◌, ◌*◌, ◌/◌, ◌%◌, ◌<◌, ◌≤◌, Bool, true, false, cond, eqb, leb, List, [], ◌∷◌, ◌++◌, length, get_or, take, drop, ℤ, pos, Option, Some, None, sym, refl, ap, ◌∙◌, arith, zero-add, drop-cons, drop_of_length-le, length-append, lt-ltb, eq-eqb, ne_eqb, eqb-true, le-leb, leb-true}
+use Rattle.std.proofs.Common.{◌≡◌, ℕ, ◌+◌, ◌-◌, ◌*◌, ◌%◌, ◌<◌, ◌≤◌, Bool, true, false, cond, eqb, leb, List, [], ◌∷◌, ◌++◌, length, get_or, take, drop, ℤ, pos, Option, Some, None, sym, refl, ap, ◌∙◌, arith, zero-add, drop-cons, drop_of_length-le, length-append, lt-ltb, eq-eqb, ne_eqb, eqb-true, le-leb, leb-true}
 use mathlib.Core.Bool.{false≢true}
 use lib.Pointwise.{pointwise}
 use lib.Seq.{take-append_seam, get_or-append_seam}
@@ -9,7 +9,7 @@ use Rattle.std.specs.Option.{option_map}
 use Rattle.frame.specs.Hex.{bytes_of, is_sound, Decoded}
 use Rattle.frame.specs.Frame.{Frame, bad, header, bottom, top, one, four, fours, header_of, count_of, carrier_of, kind_of, text_frame, is_fed, frame_of, said_of, columns_of}
 use Rattle.frame.specs.declared.read.Said.{Said}
-use Rattle.frame.specs.declared.read.Said.TheVariants.{Header, Bottom, Top}
+use Rattle.frame.specs.declared.read.Said.TheVariants.{Bottom, Top}
 use Rattle.frame.specs.Puts.{puts, Carried, ReadIn}
 use Rattle.frame.proofs.Scan.{either, bytes_length}
 use Rattle.frame.proofs.Puts.{puts_is, fours_length, get_or_fours}
@@ -167,15 +167,32 @@ module _ (bs : List ℕ) where
             ∙ ap (λ (j : ℕ). puts columns 0 (fours bs 3 j)) (sym c);
       }
 
+-- bytes of a header's length carry no columns
+module _ (bs : List ℕ) (n : length bs ≡ 11) where
+  no_carrier : (row : ℕ → List ℤ → Frame) → carrier_of row bs ≡ bad
+  unfolding carrier_of
+  no_carrier row = let z = no_count bs (λ a b d. omega arith) in simp z
+
+  pub not_header : (one bs 0 ≡ 16 → ⊥) → kind_of bs ≡ bad
+  unfolding kind_of
+  not_header h =
+      cond_elim (λ (f : Frame). f ≡ bad) (eqb (one bs 0) 16) (λ e. absurd (h (eqb-true _ _ e)))
+      (λ _. cond_elim (λ (f : Frame). f ≡ bad) (eqb (one bs 0) 17) (λ _. no_carrier bottom)
+      (λ _. cond_elim (λ (f : Frame). f ≡ bad) (eqb (one bs 0) 18) (λ _. no_carrier top) (λ _. refl)))
+
+  no_columns : columns_of (kind_of bs) ≡ []
+  unfolding kind_of header_of
+  no_columns =
+      cond_elim (λ (f : Frame). columns_of f ≡ []) (eqb (one bs 0) 16) (λ _. cond_elim (λ (f : Frame). columns_of f ≡ []) (eqb (length bs) 11) (λ _. refl) (λ _. refl))
+      (λ _. cond_elim (λ (f : Frame). columns_of f ≡ []) (eqb (one bs 0) 17) (λ _. ap columns_of (no_carrier bottom))
+      (λ _. cond_elim (λ (f : Frame). columns_of f ≡ []) (eqb (one bs 0) 18) (λ _. ap columns_of (no_carrier top)) (λ _. refl)))
+
+  pub header_in : (columns : List ℤ) → ReadIn (kind_of bs) columns (said_of (kind_of bs)) columns
+  unfolding puts
+  header_in columns = record { said = refl; carried = ap (puts columns 0) (sym no_columns) }
+
 -- what bytes of one kind say
 module _ (bs : List ℕ) (columns columns' : List ℤ) where
-  pub header_in : one bs 0 ≡ 16 → ReadIn (kind_of bs) columns (said_of (header_of bs)) columns
-  unfolding kind_of header_of puts
-  header_in k =
-      let f : kind_of bs ≡ header_of bs = simp k in
-      let none : columns_of (header_of bs) ≡ [] = cond_elim (λ (h : Frame). columns_of h ≡ []) (eqb (length bs) 11) (λ e. refl) (λ e. refl) in
-      record { said = ap said_of (sym f); carried = ap (puts columns 0) (sym (ap columns_of f ∙ none)) }
-
   -- of columns, in either row
   module _ (row : ℕ → List ℤ → Frame) (says : ℕ → ℕ → Said) (s : (l : ℕ) (cs : List ℤ) → said_of (row l cs) ≡ Some (says l (length cs))) (c : (l : ℕ) (cs : List ℤ) → columns_of (row l cs) ≡ cs) where
     row_in : kind_of bs ≡ carrier_of row bs → (r : Option ℕ) → Carried bs columns r columns' → ReadIn (kind_of bs) columns (option_map (says (one bs 1)) r) columns'
@@ -207,9 +224,9 @@ module _ (bs : List ℕ) (columns columns' : List ℤ) where
   unfolding kind_of
   top_in k = row_in top Top (λ l cs. refl) (λ l cs. refl) (simp k)
 
-pub other_in : (bs : List ℕ) (columns : List ℤ) → (one bs 0 ≡ 16 → ⊥) → (one bs 0 ≡ 17 → ⊥) → (one bs 0 ≡ 18 → ⊥) → ReadIn (kind_of bs) columns None columns
-unfolding kind_of
-other_in bs columns h b t = bad_read (kind_of bs) columns (simp (ne_eqb _ _ h, ne_eqb _ _ b, ne_eqb _ _ t))
+pub other_in : (bs : List ℕ) (columns : List ℤ) → (length bs ≡ 11 → ⊥) → (one bs 0 ≡ 17 → ⊥) → (one bs 0 ≡ 18 → ⊥) → ReadIn (kind_of bs) columns None columns
+unfolding kind_of header_of
+other_in bs columns h b t = bad_read (kind_of bs) columns (either (eqb (one bs 0) 16) (λ e. simp (e, ne_eqb _ _ h)) (λ e. simp (e, ne_eqb _ _ b, ne_eqb _ _ t)))
 
 -- ---- the line feed
 
@@ -240,7 +257,7 @@ fed_is [] = refl
 fed_is (b ∷ bs) =
     let n : length bs < length (b ∷ bs) = omega arith in
     let d : drop (length bs) (b ∷ bs) ≡ get_or (b ∷ bs) (length bs) 0 ∷ [] =
-        drop-cons (b ∷ bs) (length bs) 0 n ∙ ap (λ (l : List ℕ). get_or (b ∷ bs) (length bs) 0 ∷ l) (drop_of_length-le bs (omega arith)) in
+    drop-cons (b ∷ bs) (length bs) 0 n ∙ ap (λ (l : List ℕ). get_or (b ∷ bs) (length bs) 0 ∷ l) (drop_of_length-le bs (omega arith)) in
     let z : 0 < length (b ∷ bs) = omega arith in
     let m : length (b ∷ bs) - 1 ≡ length bs = omega arith in
     either (eqb (get_or (b ∷ bs) (length bs) 0) 10) (λ e. simp (lt-ltb _ _ z, m, d, e)) (λ e. simp (lt-ltb _ _ z, m, d, e))

@@ -1,14 +1,14 @@
 // Which pairs stay: a lent row of bytes, one a pair, 0 for a pair that is dropped and anything else for one that stays. And the checks of a part.
-ghost use Rattle.std.specs.Prelude.{◌≡◌, eqb, length};
-ghost use Rattle.parts.specs.Stays.{kept, PartCheck};
+ghost use Rattle.std.specs.Prelude.{◌≡◌, Err, IfOk, IfErr, eqb, length};
+ghost use Rattle.parts.specs.Stays.{kept, check_part, AskedPart};
+ghost use Rattle.parts.specs.Routed.{places_kept};
 
-use jumper::asked::check_asked;
+use jumper::asked::Question;
 use jumper::refusal::Refusal;
-use jumper::rows::Checked;
 
 // How many pairs stay.
 #[tactic(auto, using(crate::proofs::Keeping::kept_count))]
-pub(crate) fn pairs_kept(stays: &[u8]) -> usize
+fn pairs_kept(stays: &[u8]) -> usize
     ensures { result ≡ length (kept stays.now) }
 {
     stays.iter().filter(|&&stay| stay != 0).count()
@@ -21,19 +21,40 @@ fn none_stays(stays: &[u8]) -> bool
     stays.iter().all(|&stay| stay == 0)
 }
 
-// Refusals 1 to 7, by number: UNEQUAL and EMPTY speak of the bytes too, all others of the whole rows.
-pub(crate) fn check_part(a: &[i32], b: &[i32], stays: &[u8], s: usize, d: i32) -> Checked
-    ensures { PartCheck a.now b.now stays.now s d result }
-{
-    let n = a.len();
-    if n != b.len() {
-        return Checked::Refused(Refusal::Unequal);
+// An accepted question with a byte for each pair, of which one at least stays. Only `check` makes it.
+#[derive(Clone, Copy)]
+pub(crate) struct Part<'a> {
+    pub question: Question<'a>,
+    pub stays: &'a [u8],
+    ghost asked: { AskedPart question.rows.bottom.now question.rows.top.now stays.now question.separation question.offset },
+}
+
+impl<'a> Part<'a> {
+    // Refusals 1 to 7, by number: UNEQUAL and EMPTY speak of the bytes too, all others of the whole rows.
+    pub(crate) fn check(
+        a: &'a [i32],
+        b: &'a [i32],
+        stays: &'a [u8],
+        s: usize,
+        d: i32,
+    ) -> Result<Part<'a>, Refusal>
+        ensures ok { IfOk result (λ p. (p.question.rows.bottom.now ≡ a.now) × (p.question.rows.top.now ≡ b.now) × (p.stays.now ≡ stays.now) × (p.question.separation ≡ s) × (p.question.offset ≡ d)) }
+        ensures err { IfErr result (λ r. check_part a.now b.now stays.now s d ≡ Err r) }
+    {
+        if a.len() != b.len() || a.len() != stays.len() {
+            return Err(Refusal::Unequal);
+        }
+        if none_stays(stays) {
+            return Err(Refusal::Empty);
+        }
+        let question = Question::check(a, b, s, d)?;
+        Ok(Part { question, stays })
     }
-    if n != stays.len() {
-        return Checked::Refused(Refusal::Unequal);
+
+    // How many places the part's route takes, of all its wires.
+    pub(crate) fn places(self) -> usize
+        ensures { result ≡ places_kept self.entry.stays.now self.entry.question.separation }
+    {
+        pairs_kept(self.stays) * (self.question.separation + 1)
     }
-    if none_stays(stays) {
-        return Checked::Refused(Refusal::Empty);
-    }
-    check_asked(a, b, s, d)
 }

@@ -71,7 +71,11 @@ impl<'a> Wire<'a> {
         ensures { result ≡ entry (length self.entry.row.now) (pad self.entry.row.now) self.entry.end self.entry.pad t }
     {
         if self.goes_left() {
-            if t <= self.pad { self.left(t) } else { self.end }
+            if t <= self.pad {
+                self.left(t)
+            } else {
+                self.end
+            }
         } else if t < self.row.len() - self.pad {
             self.right(t)
         } else {

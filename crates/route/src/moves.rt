@@ -75,7 +75,7 @@ impl Moves<'_> {
     // The wires from `wire` and its `track` on.
     fn give(self, wire: usize, track: usize, writer: &mut Writer<'_>) -> Reached
         ensures same { (writer.new.out.ghost_name ≡ writer.old.out.ghost_name) × (length writer.new.out.now ≡ length writer.old.out.now) }
-        ensures wrote { RouteOut self.entry.line self.entry.asked.separation self.entry.asked.offset self.entry.asked.rows.bottom.now self.entry.asked.rows.top.now wire track writer.old.out.now writer.old.at result.wire result.track result.at writer.new.out.now }
+        ensures wrote { RouteOut self.entry.line self.entry.asked wire track writer.old.out.now writer.old.at result.wire result.track result.at writer.new.out.now }
     {
         let n = self.asked.rows.bottom.len();
         let mut next = track;
@@ -100,7 +100,7 @@ impl Moves<'_> {
     fn give_wire(self, i: usize, track: usize, writer: &mut Writer<'_>) -> Option<usize>
         requires { i < length self.asked.rows.bottom.now }
         ensures same { (writer.new.out.ghost_name ≡ writer.old.out.ghost_name) × (length writer.new.out.now ≡ length writer.old.out.now) }
-        ensures wrote { WireOut self.entry.line self.entry.asked.separation self.entry.asked.offset self.entry.asked.rows.bottom.now self.entry.asked.rows.top.now i track writer.old.out.now writer.old.at result writer.new.at writer.new.out.now }
+        ensures wrote { WireOut self.entry.line self.entry.asked i track writer.old.out.now writer.old.at result writer.new.at writer.new.out.now }
     {
         let wire = Wire::of(self.asked, i);
         let mut from = wire.column(track);

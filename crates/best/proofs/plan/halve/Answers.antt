@@ -11,4 +11,5 @@ kept_or_read-requires-clause-kept c = rw c.climb-level.ensures.level.best c.clim
 pub returns : goal.returns
 returns c =
     let e = c.whole-entries in
-    planned e.result _ _ _ c.climb-level.ensures c.args.rows.now c.kept_or_read.result _ (ap (λ r. r.now) e.ensures.of) e.ensures.step e.ensures.len c.kept_or_read.ensures c.tracks_for.ensures
+    planned e.result _ _ _ c.climb-level.ensures c.args.rows.now c.kept_or_read.result _ (ap (λ r. r.now) e.ensures.of) e.ensures.step e.ensures.len
+    c.kept_or_read.ensures c.tracks_for.ensures

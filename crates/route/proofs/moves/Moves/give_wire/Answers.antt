@@ -34,7 +34,7 @@ loop-t-preserved c =
       put.ensures.same.1 ∙ loop.invariant.1,
       to,
       wire_step c.args.self.line q.separation e c.args.i W loop.writer.out.now put.new.self.out.now loop.t loop.writer.at put.new.self.at _ _ c.loop-t-test.true
-      loop.invariant.2 to loop.invariant.3 (put.ensures.wrote.wrote c.if-not-put.false),
+          loop.invariant.2 to loop.invariant.3 (put.ensures.wrote.wrote c.if-not-put.false),
       λ h. let y = loop.invariant.4 h in let z = put.ensures.wrote.fits (omega (arith, y, loop.invariant.1)) in omega (arith, z, loop.invariant.1),
     )
 
