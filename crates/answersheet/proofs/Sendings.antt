@@ -37,11 +37,3 @@ reads_on {u₀} {u₁} {u₂} {f = f} piece p t q = record {
   taken = Consumes-trans u₀ u₁ u₂ p.piece piece p.taken t;
   sends = simp append_assoc (sends_on (sends_before piece p.sends) (λ rest. refl) q);
 }
-
--- the sheet was read to its end, and all that was due was sent
-pub all_sent : (u₀ u₁ u₂ c₀ c₁ c₂ : Option (List ℕ)) {f g : List ℕ → List ℕ} → Reads u₀ u₁ c₀ c₁ f g → Consumes u₁ u₂ [] → IsAtEnd u₂ → Appends c₁ c₂ (g [])
-    → IfSome u₀ (λ sheet. Appends c₀ c₂ (f sheet))
-all_sent u₀ u₁ u₂ c₀ c₁ c₂ {f} {g} read none end sent =
-    let all : f read.piece ≡ read.sends.bytes ++ g [] = ap f (sym (append-nil read.piece)) ∙ read.sends.left [] in
-    Consumes-whole u₀ u₂ read.piece (λ sheet. Appends c₀ c₂ (f sheet)) (simp append-nil at (Consumes-trans u₀ u₁ u₂ read.piece [] read.taken none)) end
-    (rw all (Appends-trans c₀ c₁ c₂ read.sends.bytes (g []) read.sends.sent sent))

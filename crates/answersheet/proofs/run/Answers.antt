@@ -1,5 +1,5 @@
 use Rattle.std.proofs.Common.{rules, sym, take}
-use Rattle.answersheet.proofs.Sendings.{nothing_read, reads_on, all_sent}
+use Rattle.answersheet.proofs.Sendings.{nothing_read, reads_on}
 use Rattle.answersheet.proofs.run.Goals as goal
 
 pub loop-init : goal.loop-init
