@@ -59,9 +59,9 @@ impl<W: Write, E: Eprint> Desk<'_, '_, W, E> {
         ensures sends { OnOk result (Sends (W.contents self.old.output.now) (W.contents self.new.output.now) (due self.old) (due self.new)) }
         ensures sent { OnOk result (Sent self.old self.new) }
     {
-        self.output
-            .write_all(self.out.waiting())
-            .map_err(|_| self.tell("answersheet: standard output can't be written"))?;
+        self.output.write_all(self.out.waiting()).map_err(|_| self.tell(
+            "answersheet: standard output can't be written",
+        ))?;
         self.out.n = 0;
         Ok(())
     }
