@@ -1,5 +1,6 @@
 -- The promise of the best call, case by case: refused rows, a short buffer, an answer.
 use mathlib.Core.Path.{◌≡◌, refl, sym, ◌∙◌}
+use Rattle.std.specs.Prelude.{Ok, Err}
 use mathlib.Core.List.{List}
 use mathlib.Core.Logic.{◌↔◌}
 use Prim.Native.Nat.{ℕ, ◌*◌, ◌≤◌, ◌<◌}
@@ -13,27 +14,30 @@ use Rattle.wiring.specs.Fit.{lean_of}
 use Rattle.wiring.specs.Tracks.{rule_at, tracks_for}
 use Rattle.wiring.proofs.Rule.{lean_steady}
 use Rattle.wiring.proofs.Serves.{rule_back, rule_below}
-use Rattle.jumper.specs.Refusals.{refusal_numbers}
+use Rattle.jumper.specs.Refusals.{refusal_numbers, AnswerNumbers}
+use Rattle.jumper.specs.declared.refusal.Numbers.{Numbers}
 use Rattle.jumper.specs.Rows.{AcceptedRows, check_rows}
 use Rattle.jumper.specs.declared.refusal.Refusal.{Refusal}
+use Rattle.jumper.specs.declared.rows.Rows.{Rows}
 use Rattle.jumper.specs.declared.refusal.Refusal.TheVariants.{Buffer}
-use Rattle.jumper.specs.declared.rows.Checked.TheVariants.{Accepted, Refused as RowsRefused}
-use Rattle.jumper.proofs.Accepted.{numbered, refused_not, rows_of, of_rows}
+use Rattle.jumper.proofs.Accepted.{numbered, refused_not, of_rows}
 use Rattle.jumper.proofs.Checks.{early_rows}
 use Rattle.jumper.proofs.Spans.{range_exactly}
 use Rattle.jumper.proofs.Wired.{wiring_exactly, wired_first}
 use Rattle.best.specs.Halving.{levels}
-use Rattle.best.specs.Best.{best_numbers, halving_of, ladder_of, best_answer, BestAnswer}
-use Rattle.best.specs.Work.{Plannable, IsPlanned}
+use Rattle.best.specs.Best.{Best, planned_numbers, best_numbers, halving_of, ladder_of, best_answer, BestAnswer}
+use Rattle.best.specs.Work.{IsPlanned}
 use Rattle.best.specs.declared.plan.Planned.{Planned}
-use Rattle.best.specs.declared.plan.Best.{Best}
-use Rattle.best.specs.declared.plan.Best.TheVariants.{Found, Refused}
 use Rattle.best.proofs.Bests.{BestOf, best_is_best, count_fixed, count_cheap, ladder_length}
+
+-- rows that were let through
+pub let_through : {a b : List ℤ} (w : Rows) → (w.bottom.now ≡ a) × (w.top.now ≡ b) → AcceptedRows a b
+let_through w e = rw (e.0, e.1) at w.accepted
 
 module _ (a b : List ℤ) (before : List ℕ) where
   -- a refusal: nothing is said of a separation, and the buffer is as it was
-  best_refused : (f : Refusal) → Refused f ≡ best_answer a b before → (AcceptedRows a b → length (ladder_of a b) ≤ length before → ⊥)
-      → ((refusal_numbers f).refusal ≡ 9) ↔ (AcceptedRows a b × (length before < length (ladder_of a b))) → BestAnswer a b before before (Refused f)
+  best_refused : (f : Refusal) → Err f ≡ best_answer a b before → (AcceptedRows a b → length (ladder_of a b) ≤ length before → ⊥)
+      → ((refusal_numbers f).refusal ≡ 9) ↔ (AcceptedRows a b × (length before < length (ladder_of a b))) → BestAnswer a b before before (Err f)
   best_refused f e none short =
       record {
         answer = e;
@@ -50,17 +54,17 @@ module _ (a b : List ℤ) (before : List ℕ) where
         cheap = λ q. absurd (numbered f q);
       }
 
-  pub rows_refused : (f : Refusal) → check_rows a b ≡ RowsRefused f → BestAnswer a b before before (Refused f)
+  pub rows_refused : (f : Refusal) → check_rows a b ≡ Err f → BestAnswer a b before before (Err f)
   rows_refused f e =
       let n : (refusal_numbers f).refusal ≤ 5 = rw e at (early_rows a b) in
       let z : AcceptedRows a b → ⊥ = λ r. refused_not f (sym e ∙ of_rows a b r) in
       best_refused f (rw e) (λ r l. z r) ((λ q. absurd (omega arith)), (λ w. absurd (z w.0)))
 
-  module _ (e : check_rows a b ≡ Accepted) where
-    rows : AcceptedRows a b
-    rows = rows_of a b e
+  module _ (rows : AcceptedRows a b) where
+    e : check_rows a b ≡ Ok tt
+    e = of_rows a b rows
 
-    pub buffer_short : length before < length (ladder_of a b) → BestAnswer a b before before (Refused Buffer)
+    pub buffer_short : length before < length (ladder_of a b) → BestAnswer a b before before (Err Buffer)
     buffer_short h = best_refused Buffer (rw (e, lt-ltb (length before) (length (ladder_of a b)) h)) (λ r l. omega arith) ((λ q. (rows, h)), (λ w. refl))
 
     -- demand 3, of the rule's best
@@ -70,7 +74,7 @@ module _ (a b : List ℤ) (before : List ℕ) where
     inside : (halving_of a b).best < length a
     inside = omega (arith, best.within, rows.some)
 
-    pub found : length (ladder_of a b) ≤ length before → (after : List ℕ) (p : Planned) → IsPlanned a b before after p → BestAnswer a b before after (Found p)
+    pub found : length (ladder_of a b) ≤ length before → (after : List ℕ) (p : Planned) → IsPlanned a b before after p → BestAnswer a b before after (Ok p)
     found h after p i =
         rw i.planned
         (record {
@@ -99,12 +103,14 @@ module _ (a b : List ℤ) (before : List ℕ) where
     pub ladder_rungs : length (ladder_of a b) ≡ 2 * levels (length a)
     ladder_rungs = ladder_length (length a) (lean_of a) (lean_of b) rows.some
 
-    pub plannable : 2 * levels (length a) ≤ length before → Plannable a b before
-    plannable h = record { rows = rows; rungs = h }
-
 -- "a .. best separation of 0 stays and any other grows by one" (02, #106): none is 1, since what fits at 1 fits at 0
 pub best_not_one : {a b : List ℤ} {before after : List ℕ} {r : Best} → BestAnswer a b before after r → (best_numbers r).refusal ≡ 0 → (best_numbers r).separation ≡ 1 → ⊥
 best_not_one {a} {b} {before} {after} {r} h z e =
     let d = (best_numbers r).lowest in
     let w : HasWiring a b (best_numbers r).separation d = (h.exactly z d).1 (record { low = omega arithℤ; high = h.some z }) in
     h.none z 0 (omega arith) d (wired_first (h.accepts.0 z).0 d (rw e at w))
+
+-- the numbers of an answer, as `Numbers::from` gives them
+pub best_told : (r : Best) (n : Numbers) → AnswerNumbers (λ p m. m ≡ planned_numbers p) r n → n ≡ best_numbers r
+best_told (Ok p) n h = h
+best_told (Err f) n h = h

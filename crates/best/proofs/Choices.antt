@@ -1,48 +1,49 @@
--- A level's choice as the code makes it, from a trial r: at 2h-1, at 2h, or past it.
-use mathlib.Core.Path.{◌≡◌, refl, ap, ◌∙◌}
+-- A level's choice as the code makes it: 2h-1 and 2h are tried in turn, and 2h+1 is what is left.
+use mathlib.Core.Path.{◌≡◌, refl, sym, ap, ◌∙◌}
 use mathlib.Core.Bool.{true, false}
-use mathlib.Core.List.{List}
 use Prim.Native.Nat.{ℕ, ◌+◌, ◌-◌, ◌*◌, ◌≤◌, ◌<◌}
+use native.Mathlib.Decide.{ℕ_discrete}
 use native.Mathlib.Omega.{arith}
-use lib.ListN.{length}
 use lib.IntN.{ℤ}
-use Rattle.whole.proofs.Arith.{arithℤ}
-use Rattle.whole.proofs.Order.{true_lt, false_lt}
-use Rattle.wiring.specs.Fit.{lean_of}
-use Rattle.jumper.specs.Range.{is_empty}
-use Rattle.jumper.specs.Span.{range_of}
-use Rattle.jumper.specs.declared.range.OffsetRange.{OffsetRange}
-use Rattle.best.specs.Work.{range_read, range_kept, level_at, trial_of, EvenTried, Chosen, Keeps}
-use Rattle.best.specs.declared.trial.Trial.{Trial}
-use Rattle.best.specs.declared.level.Level.{Level}
-use Rattle.best.proofs.Levels.{from_odd, from_past, from_open, from_empty}
+use Rattle.best.specs.Halving.{empty_at, read_at, taken, from_even, from_half}
+use Rattle.best.proofs.Levels.{from_odd, from_past, from_none, from_open, from_empty}
 
--- the range of a trial
-pub read_range : (m : ℕ) (x y : ℕ → ℤ) (s : ℕ) (r : Trial) (g : OffsetRange) → r ≡ trial_of m x y s → g ≡ range_read r → g ≡ range_of m x y s
-read_range m x y s r g e q = q ∙ ap range_read e
+module _ (m : ℕ) (x y : ℕ → ℤ) (h c : ℕ) where
+  -- before s is tried, c' differences having been read: what the rule makes of those that were
+  pub record Tried (s c' : ℕ) : Type 0 where
+    pub from : 2 * h ≤ s + 1
+    pub odd : s < 2 * h → c' ≡ c
+    pub even : s ≡ 2 * h → from_half m x y h c ≡ from_even m x y h c'
+    pub past : s ≡ 2 * h + 1 → from_half m x y h c ≡ taken (2 * h + 1) c'
 
-module _ (m : ℕ) (x y : ℕ → ℤ) (h c : ℕ) (r : Trial) (g : OffsetRange) (q : g ≡ range_read r) where
-  pub empty_even : (l : Level) → r ≡ trial_of m x y (2 * h) → is_empty g ≡ true → l ≡ level_at (2 * h + 1) r (c + r.count) → EvenTried m x y h c l
-  empty_even l e t k =
-      let u = rw (read_range m x y (2 * h) r g e q) at t in
-      rw (k, from_empty m x y h c u, e)
-      (record { best = refl; count = refl; kept = λ z. absurd (omega (arithℤ, true_lt (range_of m x y (2 * h)).high (range_of m x y (2 * h)).low u, z)) })
+  pub none_tried : Tried (2 * h - 1) c
+  none_tried =
+      record {
+        from = omega arith;
+        odd = λ g. refl;
+        even = λ g. from_none m x y h c (omega arith);
+        past = λ g. absurd (omega arith);
+      }
 
-  pub open_even : (l : Level) → r ≡ trial_of m x y (2 * h) → is_empty g ≡ false → l ≡ level_at (2 * h) r (c + r.count) → EvenTried m x y h c l
-  open_even l e t k = rw (k, from_open m x y h c (rw (read_range m x y (2 * h) r g e q) at t), e) (record { best = refl; count = refl; kept = λ z. refl })
+  pub one_tried : (s c' : ℕ) → Tried s c' → empty_at m x y s ≡ true → Tried (s + 1) (c' + read_at m s)
+  one_tried s c' t e =
+      record {
+        from = omega (arith, t.from);
+        odd = λ g. absurd (omega (arith, t.from));
+        even = λ g.
+            let p : s ≡ 2 * h - 1 = omega arith in
+            from_past m x y h c (omega arith) (rw p at e) ∙ ap (from_even m x y h) (rw (p, t.odd (omega arith)));
+        past = λ g.
+            let p : s ≡ 2 * h = omega arith in
+            t.even p ∙ from_empty m x y h c' (rw p at e) ∙ rw p;
+      }
 
-  pub open_odd : (l : Level) → 0 < h → r ≡ trial_of m x y (2 * h - 1) → is_empty g ≡ false → l ≡ level_at (2 * h - 1) r (c + r.count) → Chosen m x y h c l
-  open_odd l s e t k = rw (k, from_odd m x y h c s (rw (read_range m x y (2 * h - 1) r g e q) at t), e) (record { best = refl; count = refl; kept = λ z. refl })
-
-  pub past_odd : (l : Level) → 0 < h → r ≡ trial_of m x y (2 * h - 1) → is_empty g ≡ true → EvenTried m x y h (c + r.count) l → Chosen m x y h c l
-  past_odd l s e t k =
-      let f = read_range m x y (2 * h - 1) r g e q in
-      rw (from_past m x y h c s (rw f at t)) (rw e at k)
-
--- the range that a level kept
-pub kept_range : {a b : List ℤ} {l : Level} (g : OffsetRange) → Keeps a b l → g ≡ range_kept l → is_empty g ≡ false → g ≡ range_of (length a) (lean_of a) (lean_of b) l.best
-kept_range {l = l} g k q e = q ∙ k.kept (false_lt l.high l.low (rw q at e))
-
--- a trial reads few differences
-pub trial_few : (m : ℕ) (x y : ℕ → ℤ) (s : ℕ) (r : Trial) → r ≡ trial_of m x y s → r.count ≤ 2 * m
-trial_few m x y s r e = rw e (omega arith)
+  -- the first that isn't empty is taken
+  pub one_open : (s c' : ℕ) → Tried s c' → s ≤ 2 * h → empty_at m x y s ≡ false → from_half m x y h c ≡ taken s (c' + read_at m s)
+  one_open s c' t l e = go (ℕ_discrete s (2 * h))
+    where
+      go : Dec (s ≡ 2 * h) → from_half m x y h c ≡ taken s (c' + read_at m s)
+      go (yes p) = t.even p ∙ from_open m x y h c' (rw p at e) ∙ rw p
+      go (no n) =
+          let p : s ≡ 2 * h - 1 = omega (arith, t.from) in
+          from_odd m x y h c (omega (arith, t.from)) (rw p at e) ∙ rw (p, t.odd (omega (arith, t.from)))

@@ -1,4 +1,5 @@
 -- A level as `climb` works it out, over plain lists and the ladder l.
+use Rattle.std.specs.Prelude.{None}
 use mathlib.Core.Path.{◌≡◌, refl, ap, ◌∙◌}
 use mathlib.Core.List.{List, [], ◌∷◌, ◌++◌}
 use Prim.Native.Nat.{ℕ, suc, ◌+◌, ◌-◌, ◌*◌, ◌≤◌, ◌<◌}
@@ -10,11 +11,14 @@ use lib.IntN.{ℤ}
 use Rattle.whole.proofs.Arith.{arithℤ}
 use Rattle.wiring.specs.Fit.{evens, half}
 use Rattle.best.specs.Halving.{taken, from_half, Halving, halving}
-use Rattle.best.specs.Work.{level_entries, Choosable, IsLevel, Chosen, lowest_level, Climbable, Halved, Climbed}
+use Rattle.jumper.specs.Rows.{AcceptedRows}
+use Rattle.best.specs.Strides.{Strided}
+use Rattle.best.specs.Work.{level_entries, x_of, y_of, IsLevel, Halved}
+use Rattle.best.specs.declared.entries.Entries.{Entries}
 use Rattle.best.specs.declared.level.Level.{Level}
-use Rattle.best.proofs.Levels.{one_pair_lem, more_pairs, more_levels}
+use Rattle.best.proofs.Levels.{one_pair_lem, more_pairs}
 use Rattle.best.proofs.Bests.{best_is_best, count_cheap}
-use Rattle.best.proofs.Strides.{even_entries, even_strided, bottom_steady, top_steady}
+use Rattle.best.proofs.Strides.{even_entries, bottom_steady, top_steady}
 
 -- a part that reaches to the end is all that follows its start
 rest_is : (n : ℕ) (l : List ℕ) → mid_of n (length l - n) l ≡ drop n l
@@ -31,21 +35,14 @@ no_more [] = refl
 no_more (n ∷ z) = ap (λ (t : List ℕ). n ∷ t) (no_more z)
 
 -- one entry
-pub one_halved : (m : ℕ) (x y : ℕ → ℤ) (l l' : List ℕ) (r : Level) → m ≡ 1 → l' ≡ m ∷ 0 ∷ drop 2 l → r ≡ lowest_level → Halved m x y l l' r
+pub one_halved : (m : ℕ) (x y : ℕ → ℤ) (l l' : List ℕ) (r : Level) → m ≡ 1 → l' ≡ 1 ∷ 0 ∷ drop 2 l → r ≡ record { best = 0; count = 0; range = None } → Halved m x y l l' r
 one_halved m x y l l' r f e q =
-    rw (f, q)
-    (record {
-      level = rw (one_pair_lem x y) (record { best = refl; count = refl; kept = λ g. absurd (omega (arithℤ, g)) });
-      ladder = rw (one_pair_lem x y) (rw f at e);
-    })
+    rw (f, q) (record { level = rw (one_pair_lem x y) (record { best = refl; count = refl; kept = tt }); ladder = rw (one_pair_lem x y) e })
 
--- more, over what their even half comes to: its level u, and its rungs z, put back behind the level's own
+-- more, over what their even half came to: its level u, and its rungs z, put back behind the level's own
 module _ (m : ℕ) (x y : ℕ → ℤ) (more : 1 < m) (l z : List ℕ) (u : Level) (under : Halved (half m) (evens x) (evens y) (mid_of 2 (length l - 2) l) z u) where
-  same_choice : from_half m x y u.best u.count ≡ from_half m x y (halving (half m) (evens x) (evens y)).best (halving (half m) (evens x) (evens y)).count
-  same_choice = rw (under.level.best, under.level.count)
-
-  level_next : (r : Level) → Chosen m x y u.best u.count r → IsLevel m x y (taken (halving m x y).best (halving m x y).count) r
-  level_next r c = rw (more_pairs m x y more) (rw same_choice at c)
+  level_next : (r : Level) → IsLevel m x y (from_half m x y u.best u.count) r → IsLevel m x y (taken (halving m x y).best (halving m x y).count) r
+  level_next r c = rw (more_pairs m x y more) (rw (under.level.best, under.level.count) at c)
 
   ladder_next : (l' : List ℕ) (b : ℕ) → 2 ≤ length l → l' ≡ m ∷ b ∷ drop 2 (put_mid 2 (length l - 2) l z) → b ≡ (halving m x y).best
       → l' ≡ (halving m x y).ladder ++ drop (length (halving m x y).ladder) l
@@ -57,32 +54,19 @@ module _ (m : ℕ) (x y : ℕ → ℤ) (more : 1 < m) (l z : List ℕ) (u : Leve
       let k : b ≡ (from_half m x y e.best e.count).best = eb ∙ ap (λ (t : Halving). t.best) g in
       el ∙ ap (λ (t : List ℕ). m ∷ b ∷ t) (put_rest 2 l z i ∙ no_more z) ∙ rw g (rw (j, k))
 
-  pub more_halved : (r : Level) (l' : List ℕ) → 2 ≤ length l → Chosen m x y u.best u.count r → l' ≡ m ∷ r.best ∷ drop 2 (put_mid 2 (length l - 2) l z)
-      → Halved m x y l l' r
+  pub more_halved : (r : Level) (l' : List ℕ) → 2 ≤ length l → IsLevel m x y (from_half m x y u.best u.count) r
+      → l' ≡ m ∷ r.best ∷ drop 2 (put_mid 2 (length l - 2) l z) → Halved m x y l l' r
   more_halved r l' i c el = let v = level_next r c in record { level = v; ladder = ladder_next l' r.best i el v.best }
 
--- and for `climb`: p is the level's stride
-module _ {a b : List ℤ} {p m : ℕ} {l : List ℕ} (c : Climbable a b p m l) (more : 1 < m) where
-  pub two_rungs : 2 ≤ length l
-  two_rungs = omega (arith, c.rungs, more_levels m more)
+-- what e's even half came to, by the rule's name for it
+pub by_evens : (e o : Entries) → {l l' : List ℕ} {u : Level} → (o.rows ≡ e.rows) × (o.step ≡ 2 * e.step) × (o.len ≡ half e.len) → Halved o.len (x_of o) (y_of o) l l' u
+    → Halved (half e.len) (evens (x_of e)) (evens (y_of e)) l l' u
+by_evens e o q h = rw (even_entries e.rows.bottom.now e.step, even_entries e.rows.top.now e.step) (rw (q.0, q.1, q.2) at h)
 
-  -- the even half can be climbed in what is left of the ladder
-  pub climb_next : (l' : List ℕ) → length l' ≡ length l - 2 → Climbable a b (2 * p) (half m) l'
-  climb_next l' e = record { strided = even_strided more c.strided; rungs = omega (arith, c.rungs, more_levels m more) }
-
-  module _ {z z' : List ℕ} {u : Level} (under : Climbed a b (2 * p) (half m) z z' u) where
-    -- what the even half came to, by the rule's name for it
-    pub by_evens : Halved (half m) (evens (level_entries a p)) (evens (level_entries b p)) z z' u
-    by_evens = rw (even_entries a p, even_entries b p) under
-
-    pub choose_next : Choosable 100000 a b p m u.best u.count
-    choose_next =
-        let s = even_strided more c.strided in
-        let x = level_entries a (2 * p) in
-        let y = level_entries b (2 * p) in
-        record {
-          strided = c.strided;
-          more = more;
-          within = omega (arith, under.level.best, (best_is_best (half m) x y s.some (bottom_steady s) (top_steady s)).within);
-          cheap = omega (arith, under.level.count, count_cheap (half m) x y s.some, c.strided.few);
-        }
+-- and what it says of the level over it
+pub over_next : {a b : List ℤ} {p m : ℕ} {l l' : List ℕ} {u : Level} → AcceptedRows a b → Strided (length a) p m
+    → Halved m (level_entries a p) (level_entries b p) l l' u → (2 * u.best ≤ m) × (u.count + 12 ≤ 12 * m)
+over_next {a} {b} {p} {m} r s h =
+    let x = level_entries a p in
+    let y = level_entries b p in
+    (rw h.level.best (best_is_best m x y s.some (bottom_steady r s) (top_steady r s)).within, rw h.level.count (count_cheap m x y s.some))

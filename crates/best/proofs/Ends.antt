@@ -1,36 +1,36 @@
 -- The ends of a range, one round more: as a trial reads them.
 use mathlib.Core.Path.{◌≡◌, ap, ◌∙◌}
 use mathlib.Core.List.{List}
-use Prim.Native.Nat.{ℕ, ◌+◌, ◌*◌}
-use native.Mathlib.Nat.{mul-zero, add-zero}
+use Prim.Native.Nat.{ℕ, ◌+◌, ◌-◌, ◌*◌, ◌≤◌}
+use native.Mathlib.Omega.{arith}
+use native.Mathlib.Nat.{mul-zero, zero-add}
 use lib.IntN.{ℤ, ◌-ℤ◌}
-use Rattle.whole.specs.Pick.{first_by, largest, smallest, larger_of, smaller_of}
+use Rattle.std.specs.Int.{int_max, int_min}
+use Rattle.whole.specs.Pick.{first_by, largest, smallest}
+use Rattle.whole.proofs.Order.{larger_is, smaller_is}
 use Rattle.whole.proofs.Extremes.{largest_more, smallest_more}
 use Rattle.wiring.specs.Wiring.{pad}
-use Rattle.best.specs.Work.{low_read, high_read, read_of}
-use Rattle.best.specs.declared.trial.Trial.{Trial}
+use Rattle.best.specs.Work.{low_read, high_read}
 
--- as a loop takes them
-pub larger_step : (f : ℕ → ℤ) (n : ℕ) (old new r : ℤ) → old ≡ largest f n → new ≡ f (n + 1) → r ≡ larger_of old new → r ≡ largest f (n + 1)
-larger_step f n old new r p q e = e ∙ rw (p, q) (largest_more f n)
+-- as a loop takes them, in round i
+pub larger_step : (f : ℕ → ℤ) (i : ℕ) (old new r : ℤ) → 1 ≤ i → old ≡ largest f (i - 1) → new ≡ f i → r ≡ int_max old new → r ≡ largest f (i + 1 - 1)
+larger_step f i old new r h p q e =
+    let n : i - 1 + 1 ≡ i = omega arith in
+    let n' : i + 1 - 1 ≡ i = omega arith in
+    e ∙ larger_is old new ∙ rw (p, q, n') (rw n at (largest_more f (i - 1)))
 
-pub smaller_step : (f : ℕ → ℤ) (n : ℕ) (old new r : ℤ) → old ≡ smallest f n → new ≡ f (n + 1) → r ≡ smaller_of old new → r ≡ smallest f (n + 1)
-smaller_step f n old new r p q e = e ∙ rw (p, q) (smallest_more f n)
+pub smaller_step : (f : ℕ → ℤ) (i : ℕ) (old new r : ℤ) → 1 ≤ i → old ≡ smallest f (i - 1) → new ≡ f i → r ≡ int_min old new → r ≡ smallest f (i + 1 - 1)
+smaller_step f i old new r h p q e =
+    let n : i - 1 + 1 ≡ i = omega arith in
+    let n' : i + 1 - 1 ≡ i = omega arith in
+    e ∙ smaller_is old new ∙ rw (p, q, n') (rw n at (smallest_more f (i - 1)))
 
-module _ (a b : List ℤ) (first step gap : ℕ) where
+module _ (a b : List ℤ) (p gap : ℕ) where
   -- before the first round
-  pub low_first : pad a first -ℤ pad b (first + gap) ≡ largest (low_read a b first step gap) 0
+  pub low_first : pad a 0 -ℤ pad b gap ≡ largest (low_read a b p gap) 0
   unfolding first_by
-  low_first = rw (mul-zero step, add-zero first)
+  low_first = rw (mul-zero p, zero-add gap)
 
-  pub high_first : pad a (first + gap) -ℤ pad b first ≡ smallest (high_read a b first step gap) 0
+  pub high_first : pad a gap -ℤ pad b 0 ≡ smallest (high_read a b p gap) 0
   unfolding first_by
-  high_first = rw (mul-zero step, add-zero first)
-
-  -- after the last round
-  pub all_read : (last i : ℕ) (l h : ℤ) → i ≡ last → l ≡ largest (low_read a b first step gap) i → h ≡ smallest (high_read a b first step gap) i
-      → ◌≡◌ {A = Trial} (record { low = l; high = h; count = 2 * (i + 1) }) (read_of a b first step gap last)
-  all_read last i l h e p q =
-      let p' = p ∙ ap (largest (low_read a b first step gap)) e in
-      let q' = q ∙ ap (smallest (high_read a b first step gap)) e in
-      rw (p', q', e)
+  high_first = rw (mul-zero p, zero-add gap)

@@ -1,5 +1,5 @@
 -- THE PROMISE of the best call (01, "Best separation by halving"; 02, #106; refusals 1 to 5, then 9). Callers cite this.
-use Rattle.std.specs.Prelude.{Bool, true, false, ◌≡◌, List, ◌++◌, ◌↔◌, ℕ, ◌*◌, ◌≤◌, ◌<◌, ltb, length, drop, ℤ, ◌≤ℤ◌}
+use Rattle.std.specs.Prelude.{Bool, true, false, Result, Ok, Err, ◌≡◌, List, ◌++◌, ◌↔◌, ℕ, ◌*◌, ◌≤◌, ◌<◌, ltb, length, drop, ℤ, ◌≤ℤ◌}
 use Rattle.wiring.specs.Wiring.{HasWiring}
 use Rattle.wiring.specs.Fit.{lean_of}
 use Rattle.wiring.specs.Tracks.{rule_at, tracks_for}
@@ -8,16 +8,22 @@ use Rattle.jumper.specs.Rows.{AcceptedRows, unless_refused, check_rows}
 use Rattle.jumper.specs.Range.{Within, range_named}
 use Rattle.jumper.specs.Span.{range_of}
 use Rattle.jumper.specs.declared.refusal.Numbers.{Numbers}
+use Rattle.jumper.specs.declared.refusal.Refusal.{Refusal}
 use Rattle.jumper.specs.declared.refusal.Refusal.TheVariants.{Buffer}
 use Rattle.best.specs.Halving.{Halving, halving, max_read_a_pair, ladder_count}
 use Rattle.best.specs.declared.plan.Planned.{Planned}
-use Rattle.best.specs.declared.plan.Best.{Best}
-use Rattle.best.specs.declared.plan.Best.TheVariants.{Found, Refused}
+
+-- what the call comes to
+abbrev pub Best : Type 0
+Best = Result Planned Refusal
 
 -- the numbers of an answer: "The answer is best separation, its offset range and the count."
+abbrev pub planned_numbers : Planned → Numbers
+planned_numbers p = record { refusal = 0; place = 0; second = 0; separation = p.separation; lowest = p.range.low; highest = p.range.high; pair = 0; side = 0; count = p.count }
+
 abbrev pub best_numbers : Best → Numbers
-best_numbers (Found p) = record { refusal = 0; place = 0; second = 0; separation = p.separation; lowest = p.range.low; highest = p.range.high; pair = 0; side = 0; count = p.count }
-best_numbers (Refused r) = refusal_numbers r
+best_numbers (Ok p) = planned_numbers p
+best_numbers (Err r) = refusal_numbers r
 
 -- the rule's halving of two rows, its ladder, and what it says of them: the separation that its best serves, and the range of the rule there.
 -- 02: "The halving and its count keep the old numbers inside"; the answer's separation is the one that the best of these serves
@@ -37,16 +43,16 @@ planned_of a b =
 
 -- "BUFFER is given if these don't all have room", after the refusals 1 to 5
 abbrev pub room_or : Bool → Planned → Best
-room_or true p = Refused Buffer
-room_or false p = Found p
+room_or true p = Err Buffer
+room_or false p = Ok p
 
 abbrev pub best_answer : (a b : List ℤ) (before : List ℕ) → Best
-best_answer a b before = unless_refused (check_rows a b) Refused (room_or (ltb (length before) (length (ladder_of a b))) (planned_of a b))
+best_answer a b before = unless_refused (check_rows a b) Err (room_or (ltb (length before) (length (ladder_of a b))) (planned_of a b))
 
 -- "The ladder, written to a lent buffer .. places beyond are untouched", and on a refusal "no lent memory changes"
 abbrev pub ladder_by : Best → (ladder before : List ℕ) → List ℕ
-ladder_by (Found p) ladder before = ladder ++ drop (length ladder) before
-ladder_by (Refused r) ladder before = before
+ladder_by (Ok p) ladder before = ladder ++ drop (length ladder) before
+ladder_by (Err r) ladder before = before
 
 -- What `best_of` promises, of the buffer before and after it. Demand 3 is `exactly`, `some` and `none`.
 pub record BestAnswer (a b : List ℤ) (before after : List ℕ) (r : Best) : Type 0 where

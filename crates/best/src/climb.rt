@@ -1,20 +1,22 @@
 // The halving itself: down to one pair, and up again level by level.
-ghost use Rattle.best.specs.Work.{Climbable, Climbed};
+ghost use Rattle.std.specs.Prelude.{◌*◌, ◌≤◌, length};
+ghost use Rattle.best.specs.Halving.{levels};
+ghost use Rattle.best.specs.Work.{Halved, x_of, y_of};
 
-use crate::level::{Level, choose, lowest, set_rung};
+use crate::entries::Entries;
+use crate::level::{Level, set_rung};
 
-// The best number of a level: m entries that are read in the rows themselves, at a stride. Its even half is the level of twice the stride. The level's
-// rung is written in front of `ladder`, those below behind it.
-pub(crate) fn climb(a: &[i32], b: &[i32], step: usize, m: usize, ladder: &mut [usize]) -> Level
-    requires { Climbable a.now b.now step m ladder.old }
-    ensures { Climbed a.now b.now step m ladder.old ladder.new result }
+// The best number of a level. Its rung is written in front of `ladder`, those below behind it.
+pub(crate) fn climb(entries: Entries<'_>, ladder: &mut [usize]) -> Level
+    requires { 2 * levels entries.len ≤ length ladder.old }
+    ensures { Halved entries.entry.len (x_of entries.entry) (y_of entries.entry) ladder.old ladder.new result }
 {
-    if m <= 1 {
-        set_rung(ladder, m, 0);
-        return lowest();
+    if entries.len <= 1 {
+        set_rung(ladder, 1, 0);
+        return Level::ONE_PAIR;
     }
-    let under = climb(a, b, 2 * step, (m + 1) / 2, &mut ladder[2..]);
-    let level = choose(a, b, step, m, under.best, under.count);
-    set_rung(ladder, m, level.best);
+    let under = climb(entries.even_half(), &mut ladder[2..]);
+    let level = under.over(entries);
+    set_rung(ladder, entries.len, level.best);
     level
 }

@@ -1,87 +1,72 @@
 // One level of the halving: its best number from that of its even half, and its rung of the ladder.
-ghost use Rattle.std.specs.Prelude.{◌≡◌, ◌∷◌, ◌≤◌, length, drop};
+ghost use Rattle.std.specs.Prelude.{◌≡◌, IfSome, ◌∷◌, ◌+◌, ◌*◌, ◌≤◌, ◌<◌, length, drop};
 ghost use Rattle.jumper.specs.Limits.{max_pairs};
-ghost use Rattle.best.specs.Halving.{levels};
-ghost use Rattle.best.specs.Work.{Choosable, EvenTried, Chosen, lowest_level, range_kept, level_at, level_entries};
+ghost use Rattle.jumper.specs.Span.{range_of};
+ghost use Rattle.best.specs.Halving.{levels, from_half};
+ghost use Rattle.best.specs.Work.{IsLevel, x_of, y_of};
 
-use crate::trial::{Trial, try_at};
+use crate::entries::Entries;
 use jumper::range::OffsetRange;
 
-// The best number, how many differences were read for it, and the ends of the range there (two numbers, as in `Trial`), which is empty if it was not read.
+// The best number of a level, how many differences were read for it, and the range there, unless it was taken without a trial.
 #[derive(Clone, Copy)]
 pub(crate) struct Level {
     pub(crate) best: usize,
-    pub(crate) low: i32,
-    pub(crate) high: i32,
     pub(crate) count: usize,
+    pub(crate) range: Option<OffsetRange>,
 }
 
 impl Level {
-    pub(crate) fn range(self) -> OffsetRange
-        ensures { result ≡ range_kept self }
+    pub(crate) const ONE_PAIR: Self = Level {
+        best: 0,
+        count: 0,
+        range: None,
+    };
+
+    // The level of these entries over that of their even half, whose best is h: 2h - 1 if h is not 0, then 2h; the first whose range isn't empty is taken,
+    // else 2h + 1 without a trial.
+    pub(crate) fn over(self, entries: Entries<'_>) -> Self
+        requires more { 1 < entries.len }
+        requires within { 4 * self.best ≤ entries.len + 1 }
+        requires cheap { self.count ≤ 100000 }
+        ensures {
+            let m = entries.entry.len in
+            let x = x_of entries.entry in
+            let y = y_of entries.entry in
+            IsLevel m x y (from_half m x y self.best self.count) result
+        }
     {
-        OffsetRange {
-            low: self.low,
-            high: self.high,
+        let even = 2 * self.best;
+        let mut count = self.count;
+        for s in even.saturating_sub(1)..even + 1 {
+            let range = entries.range_at(s);
+            count += entries.differences(s);
+            if !range.is_empty() {
+                return Level {
+                    best: s,
+                    count,
+                    range: Some(range),
+                };
+            }
+        }
+        Level {
+            best: even + 1,
+            count,
+            range: None,
         }
     }
-}
 
-// One pair: its range is not read.
-pub(crate) fn lowest() -> Level
-    ensures { result ≡ lowest_level }
-{
-    Level {
-        best: 0,
-        low: 1,
-        high: 0,
-        count: 0,
+    // The range at its best: from its trial, or read now.
+    pub(crate) fn range(self, entries: Entries<'_>) -> OffsetRange
+        requires inside { self.best < entries.len }
+        requires kept { IfSome self.range (λ g. g ≡ range_of entries.len (x_of entries) (y_of entries) self.best) }
+        ensures { result ≡ range_of entries.entry.len (x_of entries.entry) (y_of entries.entry) self.best }
+    {
+        match self.range {
+            Some(range) => range,
+            None => entries.range_at(self.best),
+        }
     }
-}
-
-// After a trial: the number that is taken, with the trial's range. Where that is the untried next number, the range is empty.
-fn level_at(best: usize, tried: Trial, count: usize) -> Level
-    ensures { result ≡ level_at best tried count }
-{
-    Level {
-        best,
-        low: tried.low,
-        high: tried.high,
-        count,
-    }
-}
-
-// 2h, else 2h + 1 without a trial.
-fn try_even(a: &[i32], b: &[i32], step: usize, m: usize, h: usize, read: usize) -> Level
-    requires { Choosable 200000 a.now b.now step m h read }
-    ensures { EvenTried m (level_entries a.now step) (level_entries b.now step) h read result }
-{
-    let even = 2 * h;
-    let tried = try_at(a, b, m, even, 0, step, step);
-    let range = tried.range();
-    let count = read + tried.count;
-    if range.is_empty() {
-        return level_at(even + 1, tried, count);
-    }
-    level_at(even, tried, count)
-}
-
-// 2h - 1 if h is not 0, then 2h.
-pub(crate) fn choose(a: &[i32], b: &[i32], step: usize, m: usize, h: usize, read: usize) -> Level
-    requires { Choosable 100000 a.now b.now step m h read }
-    ensures { Chosen m (level_entries a.now step) (level_entries b.now step) h read result }
-{
-    if h == 0 {
-        return try_even(a, b, step, m, h, read);
-    }
-    let odd = 2 * h - 1;
-    let tried = try_at(a, b, m, odd, 0, step, step);
-    let range = tried.range();
-    let count = read + tried.count;
-    if range.is_empty() {
-        return try_even(a, b, step, m, h, count);
-    }
-    level_at(odd, tried, count)
 }
 
 // A rung of the ladder: a level's size and its best number.

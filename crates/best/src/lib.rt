@@ -2,6 +2,7 @@
 #![tactic(auto)]
 
 mod climb;
+mod entries;
 mod level;
 pub mod plan;
-mod trial;
+mod read;

@@ -1,19 +1,18 @@
 // The best separation of two rows, its offsets, and the ladder that led to it.
-ghost use Rattle.std.specs.Prelude.{◌≡◌, length};
-ghost use Rattle.wiring.specs.Fit.{lean_of};
-ghost use Rattle.jumper.specs.Span.{range_of};
-ghost use Rattle.best.specs.Best.{best_numbers, BestAnswer};
-ghost use Rattle.best.specs.Work.{Plannable, IsPlanned, Keeps};
+ghost use Rattle.std.specs.Prelude.{◌≡◌, ◌*◌, ◌≤◌, length};
+ghost use Rattle.best.specs.Halving.{levels};
+ghost use Rattle.best.specs.Best.{planned_numbers, BestAnswer};
+ghost use Rattle.best.specs.Work.{IsPlanned};
 
 use crate::climb::climb;
-use crate::level::{Level, count_levels};
-use crate::trial::try_at;
+use crate::entries::Entries;
+use crate::level::count_levels;
 use jumper::range::OffsetRange;
 use jumper::refusal::{Numbers, Refusal};
-use jumper::rows::{Checked, check_rows};
+use jumper::rows::Rows;
 use jumper::serves::tracks_for;
 
-#[derive(Clone, Copy)]
+#[derive(Clone, Copy, Debug, PartialEq, Eq, Hash)]
 pub struct Planned {
     pub separation: usize,
     // The offsets at which a legal wiring exists there.
@@ -22,75 +21,40 @@ pub struct Planned {
     pub count: usize,
 }
 
-#[derive(Clone, Copy)]
-pub enum Best {
-    Found(Planned),
-    Refused(Refusal),
-}
+impl From<Planned> for Numbers {
+    ghost from_gives = { λ p n. n ≡ planned_numbers p };
 
-impl Best {
-    pub fn numbers(self) -> Numbers
-        ensures { result ≡ best_numbers self }
-    {
-        match self {
-            Best::Found(p) => {
-                let range = p.range;
-                Numbers {
-                    refusal: 0,
-                    place: 0,
-                    second: 0,
-                    separation: p.separation,
-                    lowest: range.low,
-                    highest: range.high,
-                    pair: 0,
-                    side: 0,
-                    count: p.count,
-                }
-            }
-            Best::Refused(r) => r.numbers(),
+    fn from(p: Planned) -> Numbers {
+        Numbers {
+            separation: p.separation,
+            count: p.count,
+            ..Numbers::from(p.range)
         }
     }
 }
 
 // The least separation at which a legal wiring exists at any offset: refusals 1 to 5, then BUFFER. The ladder is written in front of the buffer:
 // size and best number of each level, from all pairs down to one.
-pub fn best_of(a: &[i32], b: &[i32], ladder: &mut [usize]) -> Best
+pub fn best_of(a: &[i32], b: &[i32], ladder: &mut [usize]) -> Result<Planned, Refusal>
     ensures { BestAnswer a.now b.now ladder.old ladder.new result }
 {
-    match check_rows(a, b) {
-        Checked::Refused(r) => Best::Refused(r),
-        Checked::Accepted => {
-            if ladder.len() < 2 * count_levels(a.len()) {
-                return Best::Refused(Refusal::Buffer);
-            }
-            Best::Found(halve(a, b, ladder))
-        }
+    let rows = Rows::check(a, b)?;
+    if ladder.len() < 2 * count_levels(a.len()) {
+        return Err(Refusal::Buffer);
     }
+    Ok(halve(rows, ladder))
 }
 
-// The whole rows are the level of stride 1. The range of an untried answer is read at the end, outside the count.
-fn halve(a: &[i32], b: &[i32], ladder: &mut [usize]) -> Planned
-    requires { Plannable a.now b.now ladder.old }
-    ensures { IsPlanned a.now b.now ladder.old ladder.new result }
+// The range of an untried answer is read at the end, outside the count.
+fn halve(rows: Rows<'_>, ladder: &mut [usize]) -> Planned
+    requires { 2 * levels (length rows.bottom.now) ≤ length ladder.old }
+    ensures { IsPlanned rows.entry.bottom.now rows.entry.top.now ladder.old ladder.new result }
 {
-    let level = climb(a, b, 1, a.len(), ladder);
-    let range = kept_or_read(a, b, level);
+    let entries = Entries::whole(rows);
+    let level = climb(entries, ladder);
     Planned {
         separation: tracks_for(level.best),
-        range,
+        range: level.range(entries),
         count: level.count,
     }
-}
-
-// The range at the best of the whole rows: kept from its trial, or else read.
-fn kept_or_read(a: &[i32], b: &[i32], level: Level) -> OffsetRange
-    requires { Keeps a.now b.now level }
-    ensures { result ≡ range_of (length a.now) (lean_of a.now) (lean_of b.now) level.best }
-{
-    let range = level.range();
-    if range.is_empty() {
-        let tried = try_at(a, b, a.len(), level.best, 0, 1, 1);
-        return tried.range();
-    }
-    range
 }

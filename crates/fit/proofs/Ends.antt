@@ -9,7 +9,9 @@ use lib.Signed.{lt_z, mag}
 use Rattle.whole.specs.Pick.{largest_at, smallest_at}
 use Rattle.whole.proofs.Arith.{arithℤ, sum, dif}
 use Rattle.whole.proofs.Order.{lt_same}
-use Rattle.whole.proofs.Machine.{fits32, abs_sum, abs_dif}
+use Rattle.std.proofs.Common.{FitsSigned, to_z, of_z, w32}
+use Rattle.std.proofs.lemmas.Int.{to_z_pos}
+use Rattle.whole.proofs.Machine.{back, fits32, abs_sum, abs_dif}
 use Rattle.wiring.specs.Wiring.{pad}
 use Rattle.wiring.specs.Fit.{lean_of, low_end, high_end}
 use Rattle.jumper.specs.Limits.{AcceptedOffset}
@@ -71,6 +73,39 @@ module _ {a b : List ℤ} (r : AcceptedRows a b) (s i j : ℕ) (few : s < length
 
     pub fit_top_on : mag ((pad b j +ℤ d) +ℤ pos s) < 2 ^ 31
     fit_top_on = fits32 ((pad b j +ℤ d) +ℤ pos s) (omega (arith, abs_sum (pad b j +ℤ d) (pos s), abs_sum (pad b j) d, near b r.top j, near_offset d o, small))
+
+-- the tests as they are made, on machine numbers
+module _ {a b : List ℤ} (r : AcceptedRows a b) (s i : ℕ) (inside : i + s < length a) (d : ℤ) (o : AcceptedOffset d) where
+  few : s < length a
+  few = omega (arith, inside)
+
+  of_pad : {c : List ℤ} → AcceptedRow c → (j : ℕ) → to_z w32 (of_z w32 (pad c j)) ≡ pad c j
+  of_pad {c} k j = back (pad c j) (fits32 (pad c j) (omega (arith, near c k j)))
+
+  of_offset : to_z w32 (of_z w32 d) ≡ d
+  of_offset = back d (fits32 d (omega (arith, near_offset d o)))
+
+  of_few : to_z w32 s ≡ pos s
+  of_few = to_z_pos w32 s (omega (arith, r.few))
+
+  pub right_tested : lt_z (to_z w32 (of_z w32 (pad a (i + s)))) (to_z w32 (of_z w32 (to_z w32 (of_z w32 (to_z w32 (of_z w32 (pad b i)) +ℤ to_z w32 (of_z w32 d))) +ℤ to_z w32 s))) ≡ too_right (lean_of a) (lean_of b) s d i
+  right_tested =
+      rw (of_pad r.bottom (i + s), of_pad r.top i, of_offset, back (pad b i +ℤ d) (fit_top r s i i few d o), of_few, back ((pad b i +ℤ d) +ℤ pos s) (fit_top_on r s i i few d o))
+      (right_test a b s i d)
+
+  pub left_tested : lt_z (to_z w32 (of_z w32 (to_z w32 (of_z w32 (pad b (i + s))) +ℤ to_z w32 (of_z w32 d)))) (to_z w32 (of_z w32 (to_z w32 (of_z w32 (pad a i)) +ℤ to_z w32 s))) ≡ too_left (lean_of a) (lean_of b) s d i
+  left_tested =
+      rw (of_pad r.top (i + s), of_pad r.bottom i, of_offset, back (pad b (i + s) +ℤ d) (fit_top r s i (i + s) few d o), of_few, back (pad a i +ℤ pos s) (fit_bottom r s i i few))
+      (left_test a b s i d)
+
+  pub right_fits : FitsSigned w32 (to_z w32 (of_z w32 (to_z w32 (of_z w32 (pad b i)) +ℤ to_z w32 (of_z w32 d))) +ℤ to_z w32 s)
+  right_fits = rw (of_pad r.top i, of_offset, back (pad b i +ℤ d) (fit_top r s i i few d o), of_few) (record { sfits = fit_top_on r s i i few d o })
+
+  pub left_top_fits : FitsSigned w32 (to_z w32 (of_z w32 (pad b (i + s))) +ℤ to_z w32 (of_z w32 d))
+  left_top_fits = rw (of_pad r.top (i + s), of_offset) (record { sfits = fit_top r s i (i + s) few d o })
+
+  pub left_bottom_fits : FitsSigned w32 (to_z w32 (of_z w32 (pad a i)) +ℤ to_z w32 s)
+  left_bottom_fits = rw (of_pad r.bottom i, of_few) (record { sfits = fit_bottom r s i i few })
 
 module _ {a b : List ℤ} (r : AcceptedRows a b) (s : ℕ) (few : s < length a) where
   pub fit_low_gap : mag ((gaps_of a b s).low +ℤ pos s) < 2 ^ 31

@@ -1,4 +1,5 @@
 -- The least separation (003, theorem 3): what the scan of the definition finds, what the code's search finds, and what `least_at` promises.
+use Rattle.std.specs.Prelude.{Option, Some, None, Result, Ok, Err}
 use mathlib.Core.Path.{◌≡◌, refl, sym, ◌∙◌}
 use mathlib.Core.Bool.{Bool, true, false, cond}
 use mathlib.Core.List.{List}
@@ -16,22 +17,21 @@ use Rattle.wiring.specs.Wiring.{HasWiring}
 use Rattle.wiring.specs.Fit.{lean_of, Steady, low_end, high_end, Fits, TooRight, TooLeft}
 use Rattle.wiring.specs.Tracks.{rule_at, tracks_for}
 use Rattle.wiring.proofs.Rule.{lean_steady, fits_above, fits_past, ends_next, right_breaks, left_breaks}
-use Rattle.wiring.proofs.Serves.{rule_zero, rule_back, rule_below, rule_fewer, tracks_up}
+use Rattle.wiring.proofs.Serves.{rule_zero, rule_back, rule_below, rule_fewer, tracks_zero, tracks_up}
 use Rattle.jumper.specs.Limits.{max_tracks}
-use Rattle.jumper.specs.Asked.{check_offset, AcceptedShift, Asked}
+use Rattle.jumper.specs.Rows.{Checked, or_else, check_rows}
+use Rattle.jumper.specs.Asked.{offset_fault, check_offset, check_asked, AcceptedShift, Asked}
 use Rattle.jumper.specs.declared.refusal.Side.{Side}
 use Rattle.jumper.specs.declared.refusal.Side.TheVariants.{Right, Left}
 use Rattle.jumper.specs.declared.refusal.Refusal.{Refusal}
-use Rattle.jumper.specs.declared.rows.Checked.TheVariants.{Refused}
 use Rattle.jumper.proofs.Accepted.{numbered, refused_not}
 use Rattle.jumper.proofs.Checks.{shift_accepted}
-use Rattle.fit.specs.Misfit.{too_right, too_left, is_right, misfit_from, misfit_of}
+use Rattle.fit.specs.Misfit.{too_right, too_left, misfit_from, misfit_of}
 use Rattle.fit.specs.Least.{least_numbers, breaks_at, least_of, with_witness, LeastAnswer}
-use Rattle.fit.specs.declared.misfit.Misfit.TheVariants.{None, At}
+use Rattle.fit.specs.declared.misfit.Misfit.{Misfit}
 use Rattle.fit.specs.declared.least.Least.{Least}
-use Rattle.fit.specs.declared.least.Least.TheVariants.{Straight, Tracks, Refused as NoLeast}
 use Rattle.jumper.proofs.Wired.{wiring_exactly, wired_first, tracks_given}
-use Rattle.fit.proofs.Misfits.{Free, not_here, none_fits, at_broken, broken_inside, broken_breaks, at_witness, free_before}
+use Rattle.fit.proofs.Misfits.{Free, free_here, none_fits, at_broken, broken_inside, broken_breaks, at_witness, free_before}
 
 -- pair i, by the test
 breaks : (x y : ℕ → ℤ) (s : ℕ) (d : ℤ) (n i : ℕ) → i + s < n → breaks_at x y s d i ≡ true → TooRight n s x y d i ⊎ TooLeft n s x y d i
@@ -118,7 +118,7 @@ module _ (a b : List ℤ) (d : ℤ) where
     below : (t : ℕ) → t < tracks_for s → HasWiring a b t d → ⊥
     below t h w = l.least (rule_at t) (rule_below s t h) ((wiring_exactly k.rows t d).0 w)
 
-    pub straight : s ≡ 0 → LeastAnswer a b d Straight
+    pub straight : s ≡ 0 → LeastAnswer a b d (Ok (record { separation = 0; witness = None }))
     straight e =
         record {
           answer = rw (shift_accepted a b d k, e);
@@ -129,23 +129,29 @@ module _ (a b : List ℤ) (d : ℤ) where
           witness = λ z h. absurd (omega arith);
         }
 
-    pub tracks : (i : ℕ) (side : Side) → 0 < s → misfit_of a b (s - 1) d ≡ At i side → LeastAnswer a b d (Tracks (tracks_for s) i side)
-    tracks i side h e =
+    pub tracks : (m : Misfit) → 0 < s → misfit_of a b (s - 1) d ≡ Some m → LeastAnswer a b d (Ok (record { separation = tracks_for s; witness = Some m }))
+    tracks m h e =
         record {
-          answer = rw (shift_accepted a b d k, e) (shows s i side h);
+          answer = rw (shift_accepted a b d k, e) (shows s h);
           accepts = ((λ z. k), (λ z. refl));
           within = λ z. tracks_up s (length a) l.within;
           fits = λ z. (wiring_exactly k.rows (tracks_for s) d).1 (rw (rule_back s) l.fits);
           least = λ z t q. below t q;
-          witness = λ z q. at_witness a b (tracks_for s - 1) d i side (rw (rule_fewer s) e);
+          witness = λ z q. at_witness a b (tracks_for s - 1) d m (rw (rule_fewer s) e);
         }
       where
-        shows : (s i : ℕ) (side : Side) → 0 < s → Tracks (tracks_for s) i side ≡ with_witness s (At i side)
-        shows zero i side h = absurd (omega arith)
-        shows (suc s) i side h = refl
+        shows : (s : ℕ) → 0 < s → ◌≡◌ {A = Result Least Refusal} (Ok (record { separation = tracks_for s; witness = Some m })) (Ok (with_witness s (Some m)))
+        shows zero h = absurd (omega arith)
+        shows (suc s) h = refl
 
-  pub least_refused : (r : Refusal) → check_offset a b d ≡ Refused r → LeastAnswer a b d (NoLeast r)
-  least_refused r e =
+  -- separation 0 is accepted, so the check of it is that of the offset
+  any_tracks : (r s : Checked) → or_else (or_else r (Ok tt)) s ≡ or_else r s
+  any_tracks (Ok u) s = refl
+  any_tracks (Err r) s = refl
+
+  pub least_refused : (r : Refusal) → check_asked a b 0 d ≡ Err r → LeastAnswer a b d (Err r)
+  least_refused r h =
+      let e : check_offset a b d ≡ Err r = sym (any_tracks (check_rows a b) (offset_fault d)) ∙ h in
       record {
         answer = rw e;
         accepts = ((λ z. absurd (numbered r z)), (λ z. absurd (refused_not r (sym e ∙ shift_accepted a b d z))));
@@ -155,31 +161,28 @@ module _ (a b : List ℤ) (d : ℤ) where
         witness = λ z. absurd (numbered r z);
       }
 
--- THE SEARCH: the pairs before i are free at s; and where s isn't 0, pair i is what breaks the rule just below s, on the right or the left
-abbrev pub side_of : Bool → Side
-side_of true = Right
-side_of false = Left
-
-pub record Seeking (a b : List ℤ) (d : ℤ) (s i : ℕ) (right : Bool) : Type 0 where
+-- THE SEARCH: the pairs before `from` are free at s; and where s isn't 0, the witness is the misfit just below s, and the pairs are looked at from its own on
+pub record Seeking (a b : List ℤ) (d : ℤ) (s from : ℕ) (witness : Option Misfit) : Type 0 where
   pub below : s ≤ length a
-  pub start : i ≤ length a
-  pub here : misfit_of a b s d ≡ misfit_from (lean_of a) (lean_of b) s d i (length a - s - i)
-  pub last : 0 < s → misfit_of a b (s - 1) d ≡ At i (side_of right)
+  pub start : from ≤ length a
+  pub here : misfit_of a b s d ≡ misfit_from (lean_of a) (lean_of b) s d from (length a - s - from)
+  pub first : s ≡ 0 → witness ≡ None
+  pub last : 0 < s → (m : Misfit) × ((misfit_of a b (s - 1) d ≡ Some m) × (witness ≡ Some m))
 
-pub seek_start : (a b : List ℤ) (d : ℤ) → Seeking a b d 0 0 true
+pub seek_start : (a b : List ℤ) (d : ℤ) → Seeking a b d 0 0 None
 seek_start a b d =
     let e : length a - 0 - 0 ≡ length a - 0 = omega arith in
-    record { below = omega arith; start = omega arith; here = rw e; last = λ h. absurd (omega arith) }
+    record { below = omega arith; start = omega arith; here = rw e; first = λ h. refl; last = λ h. absurd (omega arith) }
 
 -- free pairs are passed over
 skip : (x y : ℕ → ℤ) (s : ℕ) (d : ℤ) (n j : ℕ) → ((k : ℕ) → k < j → (k + s < n) × Free x y s d k) → misfit_from x y s d 0 (n - s) ≡ misfit_from x y s d j (n - s - j)
 skip x y s d n zero f = let e : n - s - 0 ≡ n - s = omega arith in rw e
 skip x y s d n (suc j) f =
     let g = f j (omega arith) in
-    let e = not_here x y s d n j g.0 (lt_false (high_end x y s j) d g.1.high) (lt_false d (low_end x y s j) g.1.low) in
+    let e = free_here x y s d n j g.0 (rw (lt_false (high_end x y s j) d g.1.high, lt_false d (low_end x y s j) g.1.low)) in
     skip x y s d n j (λ k h. f k (omega arith)) ∙ rw (add-one j) at e
 
-module _ (a b : List ℤ) (d : ℤ) (k : AcceptedShift a b d) (s i : ℕ) (right : Bool) (c : Seeking a b d s i right) where
+module _ (a b : List ℤ) (d : ℤ) (k : AcceptedShift a b d) (s from : ℕ) (w : Option Misfit) (c : Seeking a b d s from w) where
   sx : Steady (length a) (lean_of a)
   sx = lean_steady k.rows.bottom.rising
 
@@ -189,50 +192,50 @@ module _ (a b : List ℤ) (d : ℤ) (k : AcceptedShift a b d) (s i : ℕ) (right
   pub seek_asked : Asked a b s d
   seek_asked = record { rows = k.rows; tracks = omega (arith, c.below, k.rows.few); offset = k.offset }
 
-  pub seek_next : (j : ℕ) (side : Side) → misfit_from (lean_of a) (lean_of b) s d i (length a - s - i) ≡ At j side
-      → (s < length a) × Seeking a b d (s + 1) j (is_right side)
-  seek_next j side e =
-      let m : misfit_of a b s d ≡ At j side = c.here ∙ e in
-      let l = broken_inside (at_broken a b s d j side m) in
+  pub seek_next : (m : Misfit) → misfit_from (lean_of a) (lean_of b) s d from (length a - s - from) ≡ Some m
+      → (s < length a) × Seeking a b d (s + 1) m.pair (Some m)
+  seek_next m e =
+      let f : misfit_of a b s d ≡ Some m = c.here ∙ e in
+      let l = broken_inside (at_broken a b s d m f) in
       let q : s + 1 - 1 ≡ s = omega arith in (
         omega arith,
         record {
           below = omega arith;
           start = omega arith;
-          here = skip (lean_of a) (lean_of b) (s + 1) d (length a) j (λ p h. (omega arith, freed p h (free_before a b s d j side m p h) (omega arith)));
-          last = λ h. rw (q, side_back side) m;
+          here = skip (lean_of a) (lean_of b) (s + 1) d (length a) m.pair (λ p h. (omega arith, freed p h (free_before a b s d m f p h) (omega arith)));
+          first = λ h. absurd (omega arith);
+          last = λ h. (m, (rw q f, refl));
         },
       )
     where
-      side_back : (side : Side) → side_of (is_right side) ≡ side
-      side_back Right = refl
-      side_back Left = refl
-
       -- free at s, free at s + 1
-      freed : (p : ℕ) → p < j → Free (lean_of a) (lean_of b) s d p → p + suc s < length a → Free (lean_of a) (lean_of b) (s + 1) d p
+      freed : (p : ℕ) → p < m.pair → Free (lean_of a) (lean_of b) s d p → p + suc s < length a → Free (lean_of a) (lean_of b) (s + 1) d p
       freed p h f l = let n = ends_next sx sy s p l in rw (add-one s) (record { low = omega (arithℤ, f.low, n.0); high = omega (arithℤ, f.high, n.1) })
 
-  pub seek_done : misfit_from (lean_of a) (lean_of b) s d i (length a - s - i) ≡ None → s ≡ least_of (lean_of a) (lean_of b) d (length a)
+  pub seek_done : misfit_from (lean_of a) (lean_of b) s d from (length a - s - from) ≡ None → s ≡ least_of (lean_of a) (lean_of b) d (length a)
   seek_done e =
-      let m : misfit_of a b s d ≡ None = c.here ∙ e in
+      let f : misfit_of a b s d ≡ None = c.here ∙ e in
       least_once
-      (record {
-        within = c.below;
-        fits = none_fits a b s d m;
-        least = λ t h f. broken_breaks (at_broken a b (s - 1) d i (side_of right) (c.last (omega arith))) (fits_above sx sy (s - 1 - t) t (s - 1) (omega arith) f);
-      })
+      (record { within = c.below; fits = none_fits a b s d f; least = λ t h g. below t h g (c.last (omega arith)).0 (c.last (omega arith)).1.0 })
       (leastly (length a) (lean_of a) (lean_of b) d sx sy)
+    where
+      below : (t : ℕ) → t < s → Fits (length a) t (lean_of a) (lean_of b) d → (m : Misfit) → misfit_of a b (s - 1) d ≡ Some m → ⊥
+      below t h g m e = broken_breaks (at_broken a b (s - 1) d m e) (fits_above sx sy (s - 1 - t) t (s - 1) (omega arith) g)
 
-  pub seek_straight : misfit_from (lean_of a) (lean_of b) s d i (length a - s - i) ≡ None → s ≡ 0 → LeastAnswer a b d Straight
-  seek_straight e z = straight a b d k (sym (seek_done e) ∙ z)
+  pub seek_found : (t : ℕ) → t ≡ min (tracks_for s) max_tracks → misfit_from (lean_of a) (lean_of b) s d from (length a - s - from) ≡ None
+      → LeastAnswer a b d (Ok (record { separation = t; witness = w }))
+  seek_found t q e = go (dec_lt 0 s)
+    where
+      g : t ≡ tracks_for s
+      g = q ∙ tracks_given s (omega (arith, c.below, k.rows.few))
 
-  pub seek_tracks : (t : ℕ) → t ≡ min (tracks_for s) max_tracks → misfit_from (lean_of a) (lean_of b) s d i (length a - s - i) ≡ None → 0 < s
-      → LeastAnswer a b d (Tracks t i (side_of right))
-  seek_tracks t q e h =
-      let f = seek_done e in
-      let g : t ≡ tracks_for s = q ∙ tracks_given s (omega (arith, c.below, k.rows.few)) in
-      rw (g, f) (tracks a b d k i (side_of right) (rw f at h) (rw f at (c.last h)))
+      f : s ≡ least_of (lean_of a) (lean_of b) d (length a)
+      f = seek_done e
+
+      go : Dec (0 < s) → LeastAnswer a b d (Ok (record { separation = t; witness = w }))
+      go (yes h) = let l = c.last h in rw (g, l.1.1, f) (tracks a b d k l.0 (rw f at h) (rw f at l.1.0))
+      go (no h) = let z : s ≡ 0 = omega arith in rw (g, z, tracks_zero, c.first z) (straight a b d k (sym f ∙ z))
 
 -- "a least .. separation of 0 stays and any other grows by one" (02, #106): none is 1, since what fits at 1 fits at 0
-pub least_not_one : {a b : List ℤ} {d : ℤ} {r : Least} → LeastAnswer a b d r → (least_numbers r).refusal ≡ 0 → (least_numbers r).separation ≡ 1 → ⊥
+pub least_not_one : {a b : List ℤ} {d : ℤ} {r : Result Least Refusal} → LeastAnswer a b d r → (least_numbers r).refusal ≡ 0 → (least_numbers r).separation ≡ 1 → ⊥
 least_not_one {a} {b} {d} {r} l z e = l.least z 0 (omega arith) (wired_first (l.accepts.0 z).rows d (rw e at (l.fits z)))

@@ -1,10 +1,12 @@
 -- What `range_at` promises, from its answer; and the search for the pairs that set the ends of an empty range.
+use Rattle.std.specs.Prelude.{◌≢◌, Ok, Err}
 use mathlib.Core.Path.{◌≡◌, refl, sym, ◌∙◌}
 use mathlib.Core.Bool.{Bool, true, false}
 use mathlib.Core.List.{List}
 use mathlib.Core.Logic.{◌↔◌}
-use Prim.Native.Nat.{ℕ, ◌-◌, ◌<◌, ◌≤◌}
+use Prim.Native.Nat.{◌+◌, ℕ, ◌-◌, ◌<◌, ◌≤◌}
 use native.Mathlib.Decide.{dec_lt}
+use native.Mathlib.Nat.{add-zero}
 use native.Mathlib.Omega.{arith}
 use borrow.Author.Tests.{lt-ltb, le-ltb}
 use lib.ListN.{length}
@@ -22,29 +24,27 @@ use Rattle.jumper.specs.Range.{whole_range, is_empty}
 use Rattle.jumper.specs.Span.{lowest_at, highest_at, range_of}
 use Rattle.jumper.specs.declared.refusal.Refusal.{Refusal}
 use Rattle.jumper.specs.declared.refusal.Refusal.TheVariants.{NoOffset}
-use Rattle.jumper.specs.declared.rows.Checked.TheVariants.{Refused}
 use Rattle.jumper.proofs.Accepted.{numbered, refused_not}
 use Rattle.jumper.proofs.Checks.{tracks_accepted, early_tracks}
 use Rattle.jumper.proofs.Spans.{range_exactly, none_fits}
-use Rattle.fit.specs.Offsets.{low_gap, high_gap, gaps_of, range_found, FirstLow, FirstHigh, OffsetsAnswer}
-use Rattle.fit.specs.declared.offsets.Offsets.TheVariants.{Range, Refused as NoRange}
+use Rattle.fit.specs.Offsets.{gap, low_gap, high_gap, gaps_of, range_found, FirstLow, FirstHigh, OffsetsAnswer}
 use Rattle.fit.proofs.Ends.{low_is, high_is}
 use Rattle.jumper.proofs.Wired.{wiring_exactly}
 
 -- `range_found` by the code's tests
 module _ (n : ℕ) (x y : ℕ → ℤ) (s : ℕ) where
-  pub past_all : n ≤ s → range_found n x y s ≡ Range whole_range
+  pub past_all : n ≤ s → range_found n x y s ≡ Ok whole_range
   past_all h = rw (le-ltb s n h)
 
   module _ (h : s < n) where
-    pub empty_range : is_empty (range_of n x y s) ≡ true → range_found n x y s ≡ NoRange (NoOffset (lowest_at n x y s) (highest_at n x y s))
+    pub empty_range : is_empty (range_of n x y s) ≡ true → range_found n x y s ≡ Err (NoOffset (lowest_at n x y s) (highest_at n x y s))
     empty_range e = rw (lt-ltb s n h, e)
 
-    pub some_range : is_empty (range_of n x y s) ≡ false → range_found n x y s ≡ Range (range_of n x y s)
+    pub some_range : is_empty (range_of n x y s) ≡ false → range_found n x y s ≡ Ok (range_of n x y s)
     some_range e = rw (lt-ltb s n h, e)
 
 module _ (a b : List ℤ) (s : ℕ) where
-  pub range_refused : (r : Refusal) → check_tracks a b s ≡ Refused r → OffsetsAnswer a b s (NoRange r)
+  pub range_refused : (r : Refusal) → check_tracks a b s ≡ Err r → OffsetsAnswer a b s (Err r)
   range_refused r e =
       let l = rw e at (early_tracks a b s) in
       record {
@@ -75,7 +75,7 @@ module _ (a b : List ℤ) (s : ℕ) where
     wired : (d : ℤ) → HasWiring a b s d ↔ Fits n t x y d
     wired d = wiring_exactly k.rows s d
 
-    whole_answer : n ≤ t → OffsetsAnswer a b s (Range whole_range)
+    whole_answer : n ≤ t → OffsetsAnswer a b s (Ok whole_range)
     whole_answer h =
         record {
           answer = rw (tracks_accepted a b s k) (sym (past_all n x y t h));
@@ -94,7 +94,7 @@ module _ (a b : List ℤ) (s : ℕ) where
     first_high : t < n → FirstHigh a b t (highest_at n x y t)
     first_high h = let l = smallest_law (high_end x y t) (n - t - 1) in record { inside = omega (arith, l.within); lowest = λ j g. l.bounds j (omega arith); first = l.first }
 
-    none_answer : t < n → is_empty (range_of n x y t) ≡ true → OffsetsAnswer a b s (NoRange (NoOffset (lowest_at n x y t) (highest_at n x y t)))
+    none_answer : t < n → is_empty (range_of n x y t) ≡ true → OffsetsAnswer a b s (Err (NoOffset (lowest_at n x y t) (highest_at n x y t)))
     none_answer h e =
         record {
           answer = rw (tracks_accepted a b s k) (sym (empty_range n x y t h e));
@@ -107,7 +107,7 @@ module _ (a b : List ℤ) (s : ℕ) where
           accepts = ((λ z. absurd (omega arith)), (λ z. absurd ((none_fits n x y t h).0 e z.1.0 ((wired z.1.0).0 z.1.1))));
         }
 
-    some_answer : t < n → is_empty (range_of n x y t) ≡ false → OffsetsAnswer a b s (Range (range_of n x y t))
+    some_answer : t < n → is_empty (range_of n x y t) ≡ false → OffsetsAnswer a b s (Ok (range_of n x y t))
     some_answer h e =
         record {
           answer = rw (tracks_accepted a b s k) (sym (some_range n x y t h e));
@@ -131,6 +131,15 @@ module _ (a b : List ℤ) (s : ℕ) where
         go (yes h) = tested h (is_empty (range_of n x y t)) refl
         go (no h) = let g : n ≤ t = omega arith in rw (past_all n x y t g) (whole_answer g)
 
+-- a place that no earlier one is like, and that is like the first such place, is that
+first_is : (f : ℕ → ℤ) (w : ℤ) (m p i : ℕ) → p ≤ m → f p ≡ w → ((k : ℕ) → k < p → f k ≢ w) → ((k : ℕ) → k < i → f k ≢ w) → ((k : ℕ) → k ≤ m → f k ≡ w → f i ≡ w) → i ≡ p
+first_is f w m p i h e first before found = go (dec_lt i p) (dec_lt p i)
+  where
+    go : Dec (i < p) → Dec (p < i) → i ≡ p
+    go (yes l) k = absurd (first i l (found p h e))
+    go (no l) (yes k) = absurd (before p k e)
+    go (no l) (no k) = omega arith
+
 -- the range is read from the gaps, s further on, and its ends are set by the same pairs
 module _ (a b : List ℤ) (s : ℕ) where
   pub low_at : lowest_at (length a) (lean_of a) (lean_of b) s ≡ largest_at (low_gap a b s) (length a - s - 1)
@@ -150,3 +159,26 @@ module _ (a b : List ℤ) (s : ℕ) where
 
   pub gap_of_high : (range_of (length a) (lean_of a) (lean_of b) s).high +ℤ pos s ≡ (gaps_of a b s).high
   gap_of_high = let r = range_of (length a) (lean_of a) (lean_of b) s in let g = gaps_of a b s in omega (arithℤ, high_of_gaps, dif g.high (pos s), sum r.high (pos s))
+
+  -- the first pair with an end's gap is the first that sets it
+  module _ (i : ℕ) (few : s < length a) where
+    abbrev m : ℕ
+    m = length a - s - 1
+
+    pub low_first : (w : ℤ) → w ≡ (gaps_of a b s).low → ((k : ℕ) → k < i → gap a b (k + 0) (k + s) ≢ w) → ((k : ℕ) → k + 0 + s < length a → gap a b (k + 0) (k + s) ≡ w → gap a b (i + 0) (i + s) ≡ w)
+        → i ≡ lowest_at (length a) (lean_of a) (lean_of b) s
+    low_first w e before found =
+        let l = largest_law (low_gap a b s) m in
+        first_is (low_gap a b s) w m (largest_at (low_gap a b s) m) i l.within (sym e) (λ k h g. omega (arithℤ, l.first k h, g, e))
+        (λ k h g. before k h (rw (add-zero k) g))
+        (λ k h g. rw (add-zero i) at (found k (omega arith) (rw (add-zero k) g)))
+        ∙ sym low_at
+
+    pub high_first : (w : ℤ) → w ≡ (gaps_of a b s).high → ((k : ℕ) → k < i → gap a b (k + s) (k + 0) ≢ w) → ((k : ℕ) → k + s + 0 < length a → gap a b (k + s) (k + 0) ≡ w → gap a b (i + s) (i + 0) ≡ w)
+        → i ≡ highest_at (length a) (lean_of a) (lean_of b) s
+    high_first w e before found =
+        let l = smallest_law (high_gap a b s) m in
+        first_is (high_gap a b s) w m (smallest_at (high_gap a b s) m) i l.within (sym e) (λ k h g. omega (arithℤ, l.first k h, g, e))
+        (λ k h g. before k h (rw (add-zero k) g))
+        (λ k h g. rw (add-zero i) at (found k (omega arith) (rw (add-zero k) g)))
+        ∙ sym high_at

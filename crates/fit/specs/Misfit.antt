@@ -1,18 +1,15 @@
 -- The witness of a misfit and the answer of `fit` (01, "Rules of fit", refusals 1 to 7 and 10; 02, #106: "the witness (pads i and i+t-1 for t >= 1 ..)").
-use Rattle.std.specs.Prelude.{Bool, true, false, cond, ◌≡◌, List, ◌⊎◌, ◌↔◌, ℕ, zero, suc, ◌+◌, ◌-◌, ◌<◌, length, ℤ}
+use Rattle.std.specs.Prelude.{Option, Some, None, Ok, Err, Bool, cond, ◌≡◌, List, ◌⊎◌, ◌↔◌, ℕ, zero, suc, ◌+◌, ◌-◌, ◌<◌, length, ℤ}
 use Rattle.std.specs.Int.Signed.{lt_z}
 use Rattle.wiring.specs.Wiring.{pad, HasWiring}
 use Rattle.wiring.specs.Fit.{lean_of, low_end, high_end, TooRight, TooLeft}
 use Rattle.wiring.specs.Tracks.{rule_at}
-use Rattle.jumper.specs.Rows.{AcceptedRows, checked_numbers, or_else}
+use Rattle.jumper.specs.Rows.{AcceptedRows, Checked, checked_numbers, or_else}
 use Rattle.jumper.specs.Asked.{check_asked, Asked}
 use Rattle.jumper.specs.declared.refusal.Side.{Side}
 use Rattle.jumper.specs.declared.refusal.Side.TheVariants.{Right, Left}
 use Rattle.jumper.specs.declared.refusal.Refusal.TheVariants.{NoFit}
-use Rattle.jumper.specs.declared.rows.Checked.{Checked}
-use Rattle.jumper.specs.declared.rows.Checked.TheVariants.{Accepted, Refused}
 use Rattle.fit.specs.declared.misfit.Misfit.{Misfit}
-use Rattle.fit.specs.declared.misfit.Misfit.TheVariants.{None, At}
 
 -- "Side RIGHT: d is above x_(i+s) - y_i .. Side LEFT: d is below x_i - y_(i+s)."
 abbrev pub too_right : (x y : ℕ → ℤ) (s : ℕ) (d : ℤ) (i : ℕ) → Bool
@@ -21,22 +18,25 @@ too_right x y s d i = lt_z (high_end x y s i) d
 abbrev pub too_left : (x y : ℕ → ℤ) (s : ℕ) (d : ℤ) (i : ℕ) → Bool
 too_left x y s d i = lt_z d (low_end x y s i)
 
-abbrev pub is_right : Side → Bool
-is_right Right = true
-is_right Left = false
+-- the side on which pair i breaks the rule
+abbrev pub side_broken : (x y : ℕ → ℤ) (s : ℕ) (d : ℤ) (i : ℕ) → Option Side
+side_broken x y s d i = cond (too_right x y s d i) (Some Right) (cond (too_left x y s d i) (Some Left) None)
+
+abbrev pub misfit_at : ℕ → Side → Misfit
+misfit_at i k = record { pair = i; side = k }
 
 -- "the least i that breaks the rule at s", among the k pairs from i on
-unfoldable pub misfit_from : (x y : ℕ → ℤ) (s : ℕ) (d : ℤ) (i k : ℕ) → Misfit
+unfoldable pub misfit_from : (x y : ℕ → ℤ) (s : ℕ) (d : ℤ) (i k : ℕ) → Option Misfit
 misfit_from x y s d i zero = None
-misfit_from x y s d i (suc k) = cond (too_right x y s d i) (At i Right) (cond (too_left x y s d i) (At i Left) (misfit_from x y s d (suc i) k))
+misfit_from x y s d i (suc k) = cond (too_right x y s d i) (Some (misfit_at i Right)) (cond (too_left x y s d i) (Some (misfit_at i Left)) (misfit_from x y s d (suc i) k))
 
-abbrev pub misfit_of : (a b : List ℤ) (s : ℕ) (d : ℤ) → Misfit
+abbrev pub misfit_of : (a b : List ℤ) (s : ℕ) (d : ℤ) → Option Misfit
 misfit_of a b s d = misfit_from (lean_of a) (lean_of b) s d 0 (length a - s)
 
 -- NOFIT, "no legal wiring at (s, d)": a misfit as a refusal
-abbrev pub no_fit : Misfit → Checked
-no_fit None = Accepted
-no_fit (At i k) = Refused (NoFit i k)
+abbrev pub no_fit : Option Misfit → Checked
+no_fit None = Ok tt
+no_fit (Some m) = Err (NoFit m.pair m.side)
 
 abbrev pub fit_of : (a b : List ℤ) (s : ℕ) (d : ℤ) → Checked
 fit_of a b s d = or_else (check_asked a b s d) (no_fit (misfit_of a b (rule_at s) d))

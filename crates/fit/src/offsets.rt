@@ -1,141 +1,86 @@
 // The offset range at a separation. In all but `range_at` itself s is the rule's number.
-ghost use Rattle.std.specs.Prelude.{◌≡◌, ◌+◌, ◌-◌, ◌<◌, length};
+ghost use Rattle.std.specs.Prelude.{◌≡◌, ◌≢◌, ℕ, ◌+◌, ◌-◌, ◌≤◌, ◌<◌, length};
 ghost use Rattle.wiring.specs.Fit.{lean_of};
-ghost use Rattle.jumper.specs.Asked.{AcceptedTracks};
-ghost use Rattle.jumper.specs.Span.{lowest_at, highest_at, range_of};
-ghost use Rattle.fit.specs.Offsets.{low_gap, high_gap, gaps_of, offsets_numbers, range_found, OffsetsAnswer};
+ghost use Rattle.jumper.specs.Limits.{max_tracks};
+ghost use Rattle.jumper.specs.Span.{range_of};
+ghost use Rattle.fit.specs.Offsets.{gap, gaps_of, range_found, OffsetsAnswer};
 
 use jumper::asked::check_tracks;
 use jumper::range::OffsetRange;
-use jumper::refusal::{Numbers, Refusal};
-use jumper::rows::Checked;
+use jumper::refusal::Refusal;
+use jumper::rows::Rows;
 use jumper::serves::rule_at;
-use whole::{larger, smaller};
-
-#[derive(Clone, Copy)]
-pub enum Offsets {
-    Range(OffsetRange),
-    Refused(Refusal),
-}
-
-impl Offsets {
-    pub fn numbers(self) -> Numbers
-        ensures { result ≡ offsets_numbers self }
-    {
-        match self {
-            Offsets::Range(r) => Numbers {
-                refusal: 0,
-                place: 0,
-                second: 0,
-                separation: 0,
-                lowest: r.low,
-                highest: r.high,
-                pair: 0,
-                side: 0,
-                count: 0,
-            },
-            Offsets::Refused(r) => r.numbers(),
-        }
-    }
-}
 
 // The offsets at which a legal wiring exists at separation s: refusals 1 to 6, then NOOFFSET.
-pub fn range_at(a: &[i32], b: &[i32], s: usize) -> Offsets
+pub fn range_at(a: &[i32], b: &[i32], s: usize) -> Result<OffsetRange, Refusal>
     ensures { OffsetsAnswer a.now b.now s result }
 {
-    match check_tracks(a, b, s) {
-        Checked::Refused(r) => Offsets::Refused(r),
-        Checked::Accepted => {
-            let r = rule_at(s);
-            range_found(a, b, r)
-        }
-    }
+    check_tracks(a, b, s)?;
+    range_found(Rows { bottom: a, top: b }, rule_at(s))
 }
 
-// The two differences of columns that pair i reads. The ends that it sets are these, s further on.
-fn low_gap(a: &[i32], b: &[i32], s: usize, i: usize) -> i32
-    requires { AcceptedTracks a.now b.now s × (i + s < length a.now) }
-    ensures { result ≡ low_gap a.now b.now s i }
+// How far bottom pad i stands right of top pad j. The ends that pair i sets are such gaps, s further on: the low end its gap to top pad i + s, and the high end
+// the gap of bottom pad i + s to top pad i.
+fn gap(rows: Rows<'_>, i: usize, j: usize) -> i32
+    requires { (i < length rows.bottom.now) × (j < length rows.bottom.now) }
+    ensures { result ≡ gap rows.entry.bottom.now rows.entry.top.now i j }
 {
-    a[i] - b[i + s]
-}
-
-fn high_gap(a: &[i32], b: &[i32], s: usize, i: usize) -> i32
-    requires { AcceptedTracks a.now b.now s × (i + s < length a.now) }
-    ensures { result ≡ high_gap a.now b.now s i }
-{
-    a[i + s] - b[i]
+    rows.bottom[i] - rows.top[j]
 }
 
 // The largest low gap and the smallest high gap.
-fn gaps_of(a: &[i32], b: &[i32], s: usize) -> OffsetRange
-    requires { AcceptedTracks a.now b.now s × (s < length a.now) }
-    ensures { result ≡ gaps_of a.now b.now s }
+fn gaps_of(rows: Rows<'_>, s: usize) -> OffsetRange
+    requires { s < length rows.bottom.now }
+    ensures { result ≡ gaps_of rows.entry.bottom.now rows.entry.top.now s }
 {
-    let last = a.len() - s - 1;
-    let mut low = low_gap(a, b, s, 0);
-    let mut high = high_gap(a, b, s, 0);
-    let mut i: usize = 0;
-    while i < last {
-        i += 1;
-        low = larger(low, low_gap(a, b, s, i));
-        high = smaller(high, high_gap(a, b, s, i));
+    let mut low = gap(rows, 0, s);
+    let mut high = gap(rows, s, 0);
+    for i in 1..rows.bottom.len() - s {
+        low = low.max(gap(rows, i, i + s));
+        high = high.min(gap(rows, i + s, i));
     }
     OffsetRange { low, high }
 }
 
 // The range at s, for s < n. The s that every end has is added once.
-pub(crate) fn range_of(a: &[i32], b: &[i32], s: usize) -> OffsetRange
-    requires { AcceptedTracks a.now b.now s × (s < length a.now) }
-    ensures { result ≡ range_of (length a.now) (lean_of a.now) (lean_of b.now) s }
+pub(crate) fn range_of(rows: Rows<'_>, s: usize) -> OffsetRange
+    requires { s < length rows.bottom.now }
+    ensures { result ≡ range_of (length rows.entry.bottom.now) (lean_of rows.entry.bottom.now) (lean_of rows.entry.top.now) s }
 {
-    let g = gaps_of(a, b, s);
-    let low = g.low;
-    let high = g.high;
+    let g = gaps_of(rows, s);
     OffsetRange {
-        low: low + s as i32,
-        high: high - s as i32,
+        low: g.low + s as i32,
+        high: g.high - s as i32,
     }
 }
 
-// The first pair that sets the lowest offset. Only a refusal asks for it, so the loop above is spared the places.
-fn low_place(a: &[i32], b: &[i32], s: usize, low: i32) -> usize
-    requires { AcceptedTracks a.now b.now s × (s < length a.now) × (low ≡ (range_of (length a.now) (lean_of a.now) (lean_of b.now) s).low) }
-    ensures { result ≡ lowest_at (length a.now) (lean_of a.now) (lean_of b.now) s }
+// The first of the pairs with this gap between bottom pad i on and top pad j on: an end's own gap finds the pair that sets it. Only a refusal asks for it, so the
+// loop above is spared the places.
+fn first_with(rows: Rows<'_>, i: usize, j: usize, wanted: i32) -> usize
+    requires { (i < length rows.bottom.now) × (j < length rows.bottom.now) }
+    ensures before { (k : ℕ) → k < result → gap rows.entry.bottom.now rows.entry.top.now (k + i) (k + j) ≢ wanted }
+    ensures found { (k : ℕ) → k + i + j < length rows.entry.bottom.now → gap rows.entry.bottom.now rows.entry.top.now (k + i) (k + j) ≡ wanted → gap rows.entry.bottom.now rows.entry.top.now (result + i) (result + j) ≡ wanted }
 {
-    let gap = low - s as i32;
-    let mut i: usize = 0;
-    while low_gap(a, b, s, i) < gap {
-        i += 1;
+    for k in 0..rows.bottom.len().saturating_sub(i + j) {
+        if gap(rows, k + i, k + j) == wanted {
+            return k;
+        }
     }
-    i
+    0
 }
 
-// And the first that sets the highest.
-fn high_place(a: &[i32], b: &[i32], s: usize, high: i32) -> usize
-    requires { AcceptedTracks a.now b.now s × (s < length a.now) × (high ≡ (range_of (length a.now) (lean_of a.now) (lean_of b.now) s).high) }
-    ensures { result ≡ highest_at (length a.now) (lean_of a.now) (lean_of b.now) s }
+fn range_found(rows: Rows<'_>, s: usize) -> Result<OffsetRange, Refusal>
+    requires { s ≤ max_tracks }
+    ensures { result ≡ range_found (length rows.entry.bottom.now) (lean_of rows.entry.bottom.now) (lean_of rows.entry.top.now) s }
 {
-    let gap = high + s as i32;
-    let mut i: usize = 0;
-    while gap < high_gap(a, b, s, i) {
-        i += 1;
+    if rows.bottom.len() <= s {
+        return Ok(OffsetRange::whole());
     }
-    i
-}
-
-fn range_found(a: &[i32], b: &[i32], s: usize) -> Offsets
-    requires { AcceptedTracks a.now b.now s }
-    ensures { result ≡ range_found (length a.now) (lean_of a.now) (lean_of b.now) s }
-{
-    if a.len() <= s {
-        return Offsets::Range(OffsetRange::whole());
-    }
-    let r = range_of(a, b, s);
+    let r = range_of(rows, s);
     if r.is_empty() {
-        let i = low_place(a, b, s, r.low);
-        let j = high_place(a, b, s, r.high);
-        return Offsets::Refused(Refusal::NoOffset(i, j));
+        let low = first_with(rows, 0, s, r.low - s as i32);
+        let high = first_with(rows, s, 0, r.high + s as i32);
+        return Err(Refusal::NoOffset(low, high));
     }
-    Offsets::Range(r)
+    Ok(r)
 }

@@ -1,15 +1,15 @@
 // The stretch at fault: the part of the caller's own row that a misfit spans.
-ghost use Rattle.std.specs.Prelude.{◌≡◌, cond, ◌+◌, ◌<◌, length};
+ghost use Rattle.std.specs.Prelude.{◌≡◌, cond, ◌+◌, ◌≤◌, ◌<◌, length, take, drop};
 ghost use Rattle.std.specs.Int.Signed.{le_z};
-ghost use Rattle.jumper.specs.Rows.{AcceptedRow, AcceptedRows};
-ghost use Rattle.fit.specs.Stretch.{span, narrower, stretch_of, StretchPlace};
+ghost use Rattle.jumper.specs.Rows.{AcceptedRow};
+ghost use Rattle.fit.specs.Stretch.{span, stretch_of, StretchPlace};
 
-use crate::misfit::{Misfit, first_misfit};
-use jumper::asked::check_asked;
-use jumper::rows::Checked;
+use crate::misfit::first_misfit;
+use jumper::asked::Question;
+use jumper::rows::Rows;
 use jumper::serves::rule_at;
 
-// How many columns pads i to i + s of a row span. Here and below s is the rule's number, but in the two calls themselves.
+// How many columns pads i to i + s of a row span.
 fn span_of(a: &[i32], i: usize, s: usize) -> i32
     requires { AcceptedRow a.now × (i + s < length a.now) }
     ensures { result ≡ span a.now i s }
@@ -20,76 +20,59 @@ fn span_of(a: &[i32], i: usize, s: usize) -> i32
 pub fn stretch<'a>(a: &'a [i32], b: &'a [i32], s: usize, d: i32) -> &'a [i32]
     ensures { result.now ≡ stretch_of a.now b.now s d }
 {
-    match check_asked(a, b, s, d) {
-        Checked::Refused(_) => &a[..0],
-        Checked::Accepted => {
-            let r = rule_at(s);
-            match first_misfit(a, b, r, d) {
-                Misfit::None => &a[..0],
-                Misfit::At(i, _) => narrower_of(a, b, i, r),
-            }
-        }
+    let place = stretch_place(a, b, s, d);
+    if place.row == 0 {
+        place.part(a)
+    } else {
+        place.part(b)
     }
-}
-
-// Pads i to i + s of the row in which they span fewer columns.
-fn narrower_of<'a>(a: &'a [i32], b: &'a [i32], i: usize, s: usize) -> &'a [i32]
-    requires { AcceptedRows a.now b.now × (i + s < length a.now) }
-    ensures { result.now ≡ narrower a.now b.now i s }
-{
-    let e = i + s + 1;
-    if span_of(a, i, s) <= span_of(b, i, s) {
-        return &a[i..e];
-    }
-    &b[i..e]
 }
 
 // Where the stretch at fault lies, for callers that can't be handed a part of a row: row 0 is the bottom row, 1 the top row.
 #[repr(C)]
-#[derive(Clone, Copy)]
+#[derive(Clone, Copy, Debug, PartialEq, Eq, Hash)]
 pub struct Place {
     pub row: u8,
     pub start: usize,
     pub pads: usize,
 }
 
+impl Place {
+    const NOWHERE: Self = Place {
+        row: 0,
+        start: 0,
+        pads: 0,
+    };
+
+    // The part that it names of the row that it names.
+    fn part(self, row: &[i32]) -> &[i32]
+        requires { self.start + self.pads ≤ length row.now }
+        ensures { result.now ≡ take self.pads (drop self.start row.now) }
+    {
+        &row[self.start..self.start + self.pads]
+    }
+}
+
 // The stretch at fault told by its place: no pads where there is none.
 pub fn stretch_place(a: &[i32], b: &[i32], s: usize, d: i32) -> Place
     ensures { StretchPlace a.now b.now s d result }
 {
-    match check_asked(a, b, s, d) {
-        Checked::Refused(_) => Place {
-            row: 0,
-            start: 0,
-            pads: 0,
-        },
-        Checked::Accepted => {
-            let r = rule_at(s);
-            match first_misfit(a, b, r, d) {
-                Misfit::None => Place {
-                    row: 0,
-                    start: 0,
-                    pads: 0,
-                },
-                Misfit::At(i, _) => narrower_place(a, b, i, r),
-            }
-        }
+    let Ok(q) = Question::check(a, b, s, d) else {
+        return Place::NOWHERE;
+    };
+    match first_misfit(q) {
+        None => Place::NOWHERE,
+        Some(m) => narrower(q.rows, m.pair, rule_at(s)),
     }
 }
 
-fn narrower_place(a: &[i32], b: &[i32], i: usize, s: usize) -> Place
-    requires { AcceptedRows a.now b.now × (i + s < length a.now) }
-    ensures { result ≡ record { row = cond (le_z (span a.now i s) (span b.now i s)) 0 1; start = i; pads = s + 1 } }
+// Pads i to i + s of the row in which they span fewer columns.
+fn narrower(rows: Rows<'_>, i: usize, s: usize) -> Place
+    requires { i + s < length rows.bottom.now }
+    ensures { result ≡ record { row = cond (le_z (span rows.entry.bottom.now i s) (span rows.entry.top.now i s)) 0 1; start = i; pads = s + 1 } }
 {
-    if span_of(a, i, s) <= span_of(b, i, s) {
-        return Place {
-            row: 0,
-            start: i,
-            pads: s + 1,
-        };
-    }
     Place {
-        row: 1,
+        row: if span_of(rows.bottom, i, s) <= span_of(rows.top, i, s) { 0 } else { 1 },
         start: i,
         pads: s + 1,
     }

@@ -1,8 +1,10 @@
 -- What is written is read back: `written_back`, for every frame of the input kinds.
-use Rattle.std.proofs.Common.{◌≡◌, ℕ, ◌+◌, ◌-◌, ◌*◌, ◌/◌, ◌%◌, ◌^◌, ◌<◌, ◌≤◌, true, false, ltb, List, [], ◌∷◌, ◌++◌, length, get_or, ℤ, sym, refl, ap, ◌∙◌, append_assoc, arith, length-append, get_or-append-add, w32, SFits, to_z, of_z, ltb-false, ltb-true, le-ltb, lt-ltb, eq-eqb, ne_eqb, le-leb}
+use Rattle.std.proofs.Common.{◌≡◌, ℕ, ◌+◌, ◌-◌, ◌*◌, ◌/◌, ◌%◌, ◌^◌, ◌<◌, ◌≤◌, true, false, ltb, List, [], ◌∷◌, ◌++◌, length, get_or, sum, ℤ, sym, refl, ap, ◌∙◌, append_assoc, arith, length-append, get_or-append-add, w32, SFits, to_z, of_z, ltb-false, ltb-true, le-ltb, lt-ltb, eq-eqb, ne_eqb, le-leb}
 use native.Mathlib.Nat.{div-div-eq-div-mul}
+use Rattle.std.specs.List.{list_all}
+use Rattle.std.proofs.lemmas.List.Sums.{sum_by_push}
 use mir.ValLaws.{to_z-of_z, of_z_fits}
-use Rattle.frame.specs.Hex.{is_digit, value_of, digit_of, all_digits, bytes_of, text_of, total, last_byte, is_sound, line_of}
+use Rattle.frame.specs.Hex.{is_digit, value_of, digit_of, bytes_of, text_of, last_byte, is_sound, line_of}
 use Rattle.frame.specs.Frame.{Frame, bad, header, bottom, top, four, fours, header_of, count_of, carrier_of, kind_of, text_frame, frame_of}
 use Rattle.frame.specs.Written.{four_bytes, column_bytes, input_bytes, written}
 use Rattle.frame.proofs.Scan.{either}
@@ -49,8 +51,8 @@ text_back (b ∷ bs) h =
     let e : 16 * value_of (digit_of (b / 16 % 16)) + value_of (digit_of (b % 16)) ≡ b = omega (arith, hi.1, lo.1) in
     ap (λ (x : ℕ). x ∷ bytes_of (text_of bs)) e ∙ ap (λ (l : List ℕ). b ∷ l) (text_back bs h.1)
 
-text_digits : (bs : List ℕ) → all_digits (text_of bs) ≡ true
-unfolding text_of all_digits
+text_digits : (bs : List ℕ) → list_all is_digit (text_of bs) ≡ true
+unfolding text_of
 text_digits [] = refl
 text_digits (b ∷ bs) =
     let hi = digit_back (b / 16 % 16) (omega arith) in
@@ -59,14 +61,9 @@ text_digits (b ∷ bs) =
 
 -- ---- the sum
 
-total_join : (bs ds : List ℕ) → total (bs ++ ds) ≡ total bs + total ds
-unfolding total
-total_join [] ds = omega arith
-total_join (b ∷ bs) ds = let r = total_join bs ds in omega arith
-
-sum_back : (bs : List ℕ) → total (bs ++ (last_byte bs ∷ [])) % 256 ≡ 0
-unfolding last_byte total
-sum_back bs = let j = total_join bs (last_byte bs ∷ []) in omega arith
+sum_back : (bs : List ℕ) → sum (bs ++ (last_byte bs ∷ [])) % 256 ≡ 0
+unfolding last_byte
+sum_back bs = let j = sum_by_push (λ x. x) bs (last_byte bs) in omega arith
 
 last_small : (bs : List ℕ) → last_byte bs < 256
 unfolding last_byte

@@ -1,50 +1,51 @@
 -- Runs of stores: a line's digits, a row's columns.
--- Sections: stores in general; a frame's line, byte by byte; the sixteen digits; a frame's bytes, field by field; the two frames of an answer; columns.
-use Rattle.std.proofs.Common.{◌≡◌, ℕ, zero, suc, ◌+◌, ◌-◌, ◌*◌, ◌%◌, ◌^◌, ◌<◌, ◌≤◌, List, [], ◌∷◌, ◌++◌, length, get_or, take, drop, set, ℤ, sym, refl, ap, ◌∙◌, subst, append_assoc, append-nil, add-one, arith, length-append, length-set, drop_of_length-le, length-take-le, drop-cons, take-suc-set, w32, to_z, of_z}
-use Rattle.frame.specs.Hex.{Digits, digit_of, text_of, total, last_byte, line_of}
+-- Sections: stores in general; a frame's line; columns; the two frames of an answer.
+use Rattle.std.proofs.Common.{◌≡◌, ℕ, zero, suc, ◌+◌, ◌-◌, ◌*◌, ◌%◌, ◌<◌, ◌≤◌, List, [], ◌∷◌, ◌++◌, length, get_or, take, drop, set, sum, ℤ, pos, sym, refl, ap, ◌∙◌, append_assoc, append-nil, add-one, arith, length-append, length-set, length-take-le, take-append-drop, take-suc-set}
+use Rattle.std.specs.List.{flat_map}
+use Rattle.std.proofs.lemmas.Grind.{flat_map-append}
+use Rattle.std.proofs.lemmas.List.{take_at, take_more, drop-set-lt}
+use Rattle.std.proofs.lemmas.List.FromFn.{get_or-map-range_with_len}
+use Rattle.frame.specs.Hex.{digit_of, byte_text, text_of, last_byte, line_of}
 use Rattle.frame.specs.Frame.{four, fours}
-use lib.Signed.{mag}
-use Rattle.whole.proofs.Machine.{back}
-use Rattle.frame.specs.Written.{four_bytes, answer_line, move_line}
+use Rattle.frame.specs.Written.{answer_line, move_line}
 use Rattle.frame.specs.declared.write.Answer.{Answer}
-use Rattle.frame.specs.declared.write.Fields.{Fields}
 use Rattle.frame.specs.declared.write.Move.{Move}
-use Rattle.frame.specs.Puts.{puts, byte_text, laid, Added, LinePut}
+use Rattle.frame.specs.Puts.{puts, LinePut}
 
--- what was stored stands after what stood before it
-pub take_puts : {A : Type 0} (l : List A) (at : ℕ) (vs : List A) → at + length vs ≤ length l → take (at + length vs) (puts l at vs) ≡ take at l ++ vs
+-- what was stored stands between what stood before it and after it
+pub puts_is : {A : Type 0} (l : List A) (at : ℕ) (vs : List A) → at + length vs ≤ length l → puts l at vs ≡ take at l ++ (vs ++ drop (at + length vs) l)
 unfolding puts
-take_puts l at [] h = let e : at + 0 ≡ at = omega arith in rw (e, append-nil)
-take_puts {A} l at (v ∷ vs) h =
-    let e : at + suc (length vs) ≡ at + 1 + length vs = omega arith in
-    let h' : at + 1 + length vs ≤ length (set l at v) = simp length-set (omega arith) in
+puts_is l at [] h = let e : at + 0 ≡ at = omega arith in rw e (sym (take-append-drop at l))
+puts_is {A} l at (v ∷ vs) h =
+    let e : at + 1 + length vs ≡ at + suc (length vs) = omega arith in
     let t : take (at + 1) (set l at v) ≡ take at l ++ (v ∷ []) = rw (add-one, take-suc-set l at v (omega arith)) in
-    ap (λ (n : ℕ). take n (puts (set l at v) (at + 1) vs)) e
-    ∙ take_puts (set l at v) (at + 1) vs h'
-    ∙ ap (λ (p : List A). p ++ vs) t
-    ∙ append_assoc (take at l) (v ∷ []) vs
+    let d : drop (at + 1 + length vs) (set l at v) ≡ drop (at + suc (length vs)) l =
+        drop-set-lt (at + 1 + length vs) l at v (omega arith) ∙ ap (λ (n : ℕ). drop n l) e in
+    puts_is (set l at v) (at + 1) vs (simp length-set (omega arith))
+    ∙ ap (λ (p : List A). p ++ (vs ++ drop (at + 1 + length vs) (set l at v))) t
+    ∙ ap (λ (p : List A). (take at l ++ (v ∷ [])) ++ (vs ++ p)) d
+    ∙ append_assoc (take at l) (v ∷ []) (vs ++ drop (at + suc (length vs)) l)
 
-pub one : (s : List ℕ) (i : ℕ) → i < length s → drop i s ≡ get_or s i 0 ∷ drop (i + 1) s
-one s i h = drop-cons s i 0 h ∙ ap (λ (n : ℕ). get_or s i 0 ∷ drop n s) (sym (add-one i))
+pub take_puts : {A : Type 0} (l : List A) (at : ℕ) (vs : List A) → at + length vs ≤ length l → take (at + length vs) (puts l at vs) ≡ take at l ++ vs
+take_puts {A} l at vs h =
+    let n : length (take at l ++ vs) ≡ at + length vs = simp (length-append, length-take-le at l (omega arith)) in
+    ap (take (at + length vs)) (puts_is l at vs h ∙ sym (append_assoc (take at l) vs (drop (at + length vs) l)))
+    ∙ take_at (take at l ++ vs) (drop (at + length vs) l) (at + length vs) n
 
--- a run stored one by one: place to + j has element j
-module _ {A : Type 0} (vs : List A) (to : ℕ) (d : A) where
-  pub puts_start : (l : List A) → puts l to vs ≡ puts l (to + 0) (drop 0 vs)
-  puts_start l = let e : to + 0 ≡ to = omega arith in rw e
-
-  pub puts_more : (l : List A) (j : ℕ) (v : A) → j < length vs → v ≡ get_or vs j d → puts l (to + j) (drop j vs) ≡ puts (set l (to + j) v) (to + (j + 1)) (drop (j + 1) vs)
-  unfolding puts
-  puts_more l j v h e =
-      let p : to + j + 1 ≡ to + (j + 1) = omega arith in
-      ap (puts l (to + j)) (drop-cons vs j d h ∙ ap (λ (n : ℕ). get_or vs j d ∷ drop n vs) (sym (add-one j)))
-      ∙ ap (λ (x : A). puts (set l (to + j) x) (to + j + 1) (drop (j + 1) vs)) (sym e)
-      ∙ ap (λ (n : ℕ). puts (set l (to + j) v) n (drop (j + 1) vs)) p
-
-  pub puts_end : (l : List A) (j : ℕ) → length vs ≤ j → puts l (to + j) (drop j vs) ≡ l
-  unfolding puts
-  puts_end l j h = ap (puts l (to + j)) (drop_of_length-le vs h)
+-- a run stored in two parts
+pub puts_append : {A : Type 0} (l : List A) (at : ℕ) (vs ws : List A) → puts l at (vs ++ ws) ≡ puts (puts l at vs) (at + length vs) ws
+unfolding puts
+puts_append {A} l at [] ws = let e : at + 0 ≡ at = omega arith in rw e
+puts_append {A} l at (v ∷ vs) ws =
+    let e : at + 1 + length vs ≡ at + suc (length vs) = omega arith in
+    puts_append (set l at v) (at + 1) vs ws ∙ ap (λ (n : ℕ). puts (puts (set l at v) (at + 1) vs) n ws) e
 
 -- ---- a frame's line
+
+-- the sixteen digits
+pub digit_at : (d : ℕ) → d < 16 → get_or (48 ∷ 49 ∷ 50 ∷ 51 ∷ 52 ∷ 53 ∷ 54 ∷ 55 ∷ 56 ∷ 57 ∷ 65 ∷ 66 ∷ 67 ∷ 68 ∷ 69 ∷ 70 ∷ []) d 0 ≡ digit_of d
+unfolding digit_of
+digit_at d h = get_or-map-range_with_len digit_of 0 16 d d 0 h (omega arith)
 
 pub text_length : (bs : List ℕ) → length (text_of bs) ≡ 2 * length bs
 unfolding text_of
@@ -55,147 +56,68 @@ pub line_length : (bs : List ℕ) → length (line_of bs) ≡ 2 * length bs + 3
 unfolding line_of
 line_length bs = simp (length-append, text_length) (omega arith)
 
--- the digits of the bytes from i on, of the sum's byte w, and the line feed
-abbrev left : List ℕ → ℕ → ℕ → List ℕ
-left bs i w = text_of (drop i bs ++ (w ∷ [])) ++ (10 ∷ [])
+-- one byte more
+text_more : (bs : List ℕ) (i : ℕ) → i < length bs → text_of (take (i + 1) bs) ≡ text_of (take i bs) ++ byte_text (get_or bs i 0)
+unfolding text_of
+text_more bs i h = ap (flat_map byte_text) (take_more bs i 0 h) ∙ flat_map-append byte_text (take i bs) (get_or bs i 0 ∷ [])
 
--- The first i of a line's n bytes stand before place p, and acc is their sum: to put the rest from p on is to put the whole line.
-pub record Writing (start : List ℕ) (at : ℕ) (bs : List ℕ) (n : ℕ) (out : List ℕ) (acc p i : ℕ) : Type 0 where
-  pub sized : length bs ≡ n
-  pub upto : i ≤ n
-  pub place : p ≡ at + 2 * i
-  pub room : length out ≡ length start
-  pub sum : (acc + total (drop i bs)) % 256 ≡ total bs % 256
-  pub line : puts start at (line_of bs) ≡ puts out p (left bs i (last_byte bs))
+pub line_start : (start bs : List ℕ) (at : ℕ) → start ≡ puts start at (text_of (take 0 bs))
+unfolding puts text_of
+line_start start bs at = refl
 
-pub line_not_put : (bs : List ℕ) {out : List ℕ} {at n : ℕ} → length bs ≡ n → length out < at + (2 * n + 3) → LinePut (line_of bs) out at at out
-line_not_put bs e h = let l = line_length bs in record { room = λ k. absurd (omega arith); full = λ _. (refl, refl) }
+pub line_more : (start bs out out' : List ℕ) (at i : ℕ) → i < length bs → out ≡ puts start at (text_of (take i bs))
+    → out' ≡ puts out (at + 2 * i) (byte_text (get_or bs i 0)) → out' ≡ puts start at (text_of (take (i + 1) bs))
+line_more start bs out out' at i h so e =
+    let n : at + 2 * i ≡ at + length (text_of (take i bs)) = let l = text_length (take i bs) in let t = length-take-le i bs (omega arith) in omega arith in
+    e ∙ ap (λ (l : List ℕ). puts l (at + 2 * i) (byte_text (get_or bs i 0))) so
+    ∙ ap (λ (k : ℕ). puts (puts start at (text_of (take i bs))) k (byte_text (get_or bs i 0))) n
+    ∙ sym (puts_append start at (text_of (take i bs)) (byte_text (get_or bs i 0)))
+    ∙ ap (puts start at) (sym (text_more bs i h))
 
-pub line_start : {out bs : List ℕ} {at n : ℕ} → length bs ≡ n → Writing out at bs n out 0 at 0
-unfolding line_of
-line_start e = record { sized = e; upto = omega arith; place = omega arith; room = refl; sum = omega arith; line = refl }
+-- the byte that makes the sum 0
+pub is_last : (bs : List ℕ) (s r : ℕ) → s ≡ sum bs % 256 → (r + s) % 256 ≡ 0 → r < 256 → r ≡ last_byte bs
+unfolding last_byte
+is_last bs s r e z small = omega arith
 
-pub line_byte : {start bs out out' : List ℕ} {at n acc acc' p i b : ℕ} → Writing start at bs n out acc p i → i < n → b ≡ get_or bs i 0
-    → out' ≡ puts out p (byte_text b) → length out' ≡ length out → acc' ≡ (acc + b) % 256 → Writing start at bs n out' acc' (p + 2) (i + 1)
-unfolding puts text_of total
-line_byte {bs = bs} {out} {out'} {p = p} {i = i} {b = b} w h eb e l s =
-    let d = one bs i (omega (arith, w.sized)) ∙ ap (λ (x : ℕ). x ∷ drop (i + 1) bs) (sym eb) in
-    let t : total (drop i bs) ≡ b + total (drop (i + 1) bs) = ap total d in
-    let q : p + 1 + 1 ≡ p + 2 = omega arith in
-    let next = left bs (i + 1) (last_byte bs) in
-    record {
-      sized = w.sized;
-      upto = omega arith;
-      place = omega arith;
-      room = l ∙ w.room;
-      sum = omega arith;
-      line =
-          w.line
-          ∙ ap (λ (rest : List ℕ). puts out p (text_of (rest ++ (last_byte bs ∷ [])) ++ (10 ∷ []))) d
-          ∙ ap (λ (o : List ℕ). puts o (p + 1 + 1) next) (sym e)
-          ∙ ap (λ (x : ℕ). puts out' x next) q;
-    }
-
-pub line_end : {start bs out out' : List ℕ} {at n acc p i r : ℕ} → Writing start at bs n out acc p i → n ≤ i → at + (2 * n + 3) ≤ length start
-    → r < 256 → (r + acc) % 256 ≡ 0 → out' ≡ puts out p (byte_text r) → LinePut (line_of bs) start at (p + 3) (set out' (p + 2) 10)
-unfolding puts text_of total last_byte
-line_end {bs = bs} {out} {out'} {p = p} {i = i} {r = r} w h fits small er e =
-    let d : drop i bs ≡ [] = drop_of_length-le bs {i = i} (omega (arith, w.sized)) in
-    let t : total (drop i bs) ≡ 0 = ap total d in
-    let last : r ≡ last_byte bs = omega arith in
-    let q : p + 1 + 1 ≡ p + 2 = omega arith in
+pub line_end : (start bs out out' : List ℕ) (at p r : ℕ) → p ≡ at + 2 * length bs → p + 3 ≤ length start → out ≡ puts start at (text_of bs) → r ≡ last_byte bs
+    → out' ≡ puts out p (byte_text r) → LinePut (line_of bs) start at (p + 3) (set out' (p + 2) 10)
+unfolding puts text_of line_of
+line_end start bs out out' at p r ep fits so er e =
     let l = line_length bs in
+    let n : p ≡ at + length (text_of bs) = let t = text_length bs in omega arith in
+    let all : text_of (bs ++ (last_byte bs ∷ [])) ++ (10 ∷ []) ≡ text_of bs ++ (byte_text r ++ (10 ∷ [])) =
+        ap (λ (t : List ℕ). t ++ (10 ∷ [])) (flat_map-append byte_text bs (last_byte bs ∷ []))
+        ∙ append_assoc (text_of bs) (byte_text (last_byte bs)) (10 ∷ [])
+        ∙ ap (λ (b : ℕ). text_of bs ++ (byte_text b ++ (10 ∷ []))) (sym er) in
     record {
       room = λ _. (
         omega arith,
-        sym
-            (w.line
-            ∙ ap (λ (rest : List ℕ). puts out p (text_of (rest ++ (last_byte bs ∷ [])) ++ (10 ∷ []))) d
-            ∙ ap (λ (x : ℕ). puts out p (text_of (x ∷ []) ++ (10 ∷ []))) (sym last)
-            ∙ ap (λ (o : List ℕ). set o (p + 1 + 1) 10) (sym e)
-            ∙ ap (λ (x : ℕ). set out' x 10) q),
+        ap (λ (o : List ℕ). set o (p + 2) 10) e
+        ∙ sym (puts_append out p (byte_text r) (10 ∷ []))
+        ∙ ap (λ (o : List ℕ). puts o p (byte_text r ++ (10 ∷ []))) so
+        ∙ ap (λ (k : ℕ). puts (puts start at (text_of bs)) k (byte_text r ++ (10 ∷ []))) n
+        ∙ sym (puts_append start at (text_of bs) (byte_text r ++ (10 ∷ [])))
+        ∙ ap (puts start at) (sym all),
       );
       full = λ k. absurd (omega arith);
     }
 
--- ---- the sixteen digits
-
-abbrev pub sixteen : List ℕ
-sixteen = 48 ∷ 49 ∷ 50 ∷ 51 ∷ 52 ∷ 53 ∷ 54 ∷ 55 ∷ 56 ∷ 57 ∷ 65 ∷ 66 ∷ 67 ∷ 68 ∷ 69 ∷ 70 ∷ []
-
-digit_at : (d : ℕ) → d < 16 → get_or sixteen d 0 ≡ digit_of d
-unfolding digit_of
-digit_at zero h = refl
-digit_at (suc zero) h = refl
-digit_at (suc (suc zero)) h = refl
-digit_at (suc (suc (suc zero))) h = refl
-digit_at (suc (suc (suc (suc zero)))) h = refl
-digit_at (suc (suc (suc (suc (suc zero))))) h = refl
-digit_at (suc (suc (suc (suc (suc (suc zero)))))) h = refl
-digit_at (suc (suc (suc (suc (suc (suc (suc zero))))))) h = refl
-digit_at (suc (suc (suc (suc (suc (suc (suc (suc zero)))))))) h = refl
-digit_at (suc (suc (suc (suc (suc (suc (suc (suc (suc zero))))))))) h = refl
-digit_at (suc (suc (suc (suc (suc (suc (suc (suc (suc (suc zero)))))))))) h = refl
-digit_at (suc (suc (suc (suc (suc (suc (suc (suc (suc (suc (suc zero))))))))))) h = refl
-digit_at (suc (suc (suc (suc (suc (suc (suc (suc (suc (suc (suc (suc zero)))))))))))) h = refl
-digit_at (suc (suc (suc (suc (suc (suc (suc (suc (suc (suc (suc (suc (suc zero))))))))))))) h = refl
-digit_at (suc (suc (suc (suc (suc (suc (suc (suc (suc (suc (suc (suc (suc (suc zero)))))))))))))) h = refl
-digit_at (suc (suc (suc (suc (suc (suc (suc (suc (suc (suc (suc (suc (suc (suc (suc zero))))))))))))))) h = refl
-digit_at (suc (suc (suc (suc (suc (suc (suc (suc (suc (suc (suc (suc (suc (suc (suc (suc d)))))))))))))))) h = absurd (omega arith)
-
-pub digits_are : Digits sixteen
-digits_are = (refl, digit_at)
-
--- ---- a frame's bytes, field by field
-
-pub laid_length : (f : Fields) → length f.bytes ≡ 16 → f.n ≤ 16 → length (laid f) ≡ f.n
-laid_length f e h = length-take-le f.n f.bytes (omega arith)
-
-pub add_byte : (f : Fields) (b : ℕ) → f.n + 1 ≤ 16 → length f.bytes ≡ 16 → Added (b ∷ []) f (record { bytes = set f.bytes f.n b; n = f.n + 1 })
-add_byte f b h e = record { n = refl; fits = omega arith; is = rw (add-one, take-suc-set f.bytes f.n b (omega arith)) }
-
--- two fields, one after the other, add the bytes of both
-infixr 4 ◌then◌
-pub ◌then◌ : {bs cs : List ℕ} {f g r : Fields} → Added bs f g → Added cs g r → Added (bs ++ cs) f r
-◌then◌ {bs} {cs} {f} p q =
-    record {
-      n = simp length-append (omega (arith, p.n, q.n));
-      fits = q.fits;
-      is = q.is ∙ ap (λ (l : List ℕ). l ++ cs) p.is ∙ append_assoc (laid f) bs cs;
-    }
-
--- a number of a struct is handed on by its bits, and they tell it
-pub told : (z : ℤ) {f r : Fields} → mag z < 2 ^ 31 → Added (four_bytes (to_z w32 (of_z w32 z))) f r → Added (four_bytes z) f r
-told z {f} {r} h = subst (λ (x : ℤ). Added (four_bytes x) f r) (back z h)
-
--- a frame's line is of its kind and of what its fields added
-pub line_of_lem : {out out' bs : List ℕ} {kind at to : ℕ} {f r : Fields} → laid f ≡ kind ∷ [] → Added bs f r → LinePut (line_of (laid r)) out at to out'
-    → LinePut (line_of (kind ∷ bs)) out at to out'
-line_of_lem {out} {out'} {bs} {at = at} {to = to} e a = subst (λ (l : List ℕ). LinePut (line_of l) out at to out') (a.is ∙ ap (λ (l : List ℕ). l ++ bs) e)
+-- a line that has no room
+pub not_put : (bs out : List ℕ) (at : ℕ) → length out < at + (2 * length bs + 3) → LinePut (line_of bs) out at at out
+not_put bs out at h = let l = line_length bs in record { room = λ k. absurd (omega arith); full = λ _. (refl, refl) }
 
 -- ---- columns
-
-pub column_start : (row : List ℤ) (bs : List ℕ) (k : ℕ) → puts row 0 (fours bs 3 k) ≡ puts row 0 (fours bs (4 * 0 + 3) (k - 0))
-column_start row bs k = let m : k - 0 ≡ k = omega arith in rw m
-
-pub column_more : (row : List ℤ) (bs : List ℕ) (j k : ℕ) (c : ℤ) → j < k → c ≡ four bs (4 * j + 3)
-    → puts row j (fours bs (4 * j + 3) (k - j)) ≡ puts (set row j c) (j + 1) (fours bs (4 * (j + 1) + 3) (k - (j + 1)))
-unfolding puts fours
-column_more row bs j k c h e =
-    let m : k - j ≡ suc (k - (j + 1)) = omega arith in
-    let q : 4 * j + 3 + 4 ≡ 4 * (j + 1) + 3 = omega arith in
-    ap (λ (n : ℕ). puts row j (fours bs (4 * j + 3) n)) m
-    ∙ ap (λ (x : ℤ). puts (set row j x) (j + 1) (fours bs (4 * j + 3 + 4) (k - (j + 1)))) (sym e)
-    ∙ ap (λ (n : ℕ). puts (set row j c) (j + 1) (fours bs n (k - (j + 1)))) q
-
-pub column_none : (row : List ℤ) (bs : List ℕ) (j k : ℕ) → k ≤ j → puts row j (fours bs (4 * j + 3) (k - j)) ≡ row
-unfolding puts fours
-column_none row bs j k h = let m : k - j ≡ 0 = omega arith in ap (λ (n : ℕ). puts row j (fours bs (4 * j + 3) n)) m
 
 pub fours_length : (bs : List ℕ) (i k : ℕ) → length (fours bs i k) ≡ k
 unfolding fours
 fours_length bs i zero = refl
 fours_length bs i (suc k) = ap suc (fours_length bs (i + 4) k)
+
+pub get_or_fours : (bs : List ℕ) (i k j : ℕ) → j < k → get_or (fours bs i k) j (pos 0) ≡ four bs (4 * j + i)
+unfolding fours
+get_or_fours bs i zero j h = absurd (omega arith)
+get_or_fours bs i (suc k) zero h = let e : 4 * 0 + i ≡ i = omega arith in rw e
+get_or_fours bs i (suc k) (suc j) h = let e : 4 * j + (i + 4) ≡ 4 * suc j + i = omega arith in get_or_fours bs (i + 4) k j (omega arith) ∙ ap (four bs) e
 
 -- ---- the two frames of an answer
 

@@ -2,13 +2,13 @@
 -- line feed. Every other line is a bad frame." Kinds are hexadecimal: 16, 17 and 18 here.
 --
 -- Worked: 10000002FFFF00000000F0 opens line 0 of 2 pairs, at the least separation and offset 0.
-use Rattle.std.specs.Prelude.{ℕ, zero, suc, ◌+◌, ◌-◌, ◌*◌, Bool, false, cond, List, [], ◌∷◌, length, take, ℤ, ◌==◌, nat_le, nat_lt, slice_index}
+use Rattle.std.specs.Prelude.{ℕ, zero, suc, ◌+◌, ◌-◌, ◌*◌, Bool, false, cond, List, [], ◌∷◌, length, take, ℤ, ◌==◌, nat_le, nat_lt, slice_index, Option, None, Some}
 use Rattle.std.specs.Int.{w32}
 use Rattle.std.proofs.Common.{to_z}
 use Rattle.frame.specs.Hex.{bytes_of, is_sound}
 use Rattle.frame.specs.declared.read.Order.{Order}
 use Rattle.frame.specs.declared.read.Said.{Said}
-use Rattle.frame.specs.declared.read.Said.TheVariants.{Bad, Header, Bottom, Top}
+use Rattle.frame.specs.declared.read.Said.TheVariants.{Header, Bottom, Top}
 
 pub data Frame : Type 0 where
   -- every other line
@@ -65,11 +65,11 @@ unfoldable pub frame_of : List ℕ → Frame
 frame_of line = cond (is_fed line) (text_frame (take (length line - 1) line)) bad
 
 -- what reading a line hands back: of columns their count; they themselves go into lent memory
-abbrev pub said_of : Frame → Said
-said_of bad = Bad
-said_of (header o) = Header o
-said_of (bottom l cs) = Bottom l (length cs)
-said_of (top l cs) = Top l (length cs)
+abbrev pub said_of : Frame → Option Said
+said_of bad = None
+said_of (header o) = Some (Header o)
+said_of (bottom l cs) = Some (Bottom l (length cs))
+said_of (top l cs) = Some (Top l (length cs))
 
 abbrev pub columns_of : Frame → List ℤ
 columns_of bad = []

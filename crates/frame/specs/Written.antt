@@ -3,6 +3,7 @@
 -- Worked: least separation 3 at offset 0 with the witness 0, RIGHT, on line 0, is 20000000030000000000000000000001DC.
 use Rattle.std.specs.Prelude.{ℕ, ◌/◌, ◌%◌, List, [], ◌∷◌, ◌++◌, length, ℤ}
 use Rattle.std.specs.Int.{w32}
+use Rattle.std.specs.List.{flat_map}
 use Rattle.std.proofs.Common.{of_z}
 use Rattle.frame.specs.Hex.{line_of}
 use Rattle.frame.specs.Frame.{Frame, bad, header, bottom, top}
@@ -17,8 +18,7 @@ abbrev pub four_bytes : ℤ → List ℕ
 four_bytes z = of_z w32 z / 16777216 % 256 ∷ of_z w32 z / 65536 % 256 ∷ of_z w32 z / 256 % 256 ∷ of_z w32 z % 256 ∷ []
 
 unfoldable pub column_bytes : List ℤ → List ℕ
-column_bytes [] = []
-column_bytes (z ∷ zs) = four_bytes z ++ column_bytes zs
+column_bytes zs = flat_map four_bytes zs
 
 -- the bytes of a frame but the sum's
 abbrev pub input_bytes : Frame → List ℕ

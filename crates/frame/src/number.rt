@@ -6,17 +6,11 @@ ghost use Rattle.std.specs.Int.{w32};
 pub fn signed(x: u32) -> i32
     ensures { result ≡ to_z w32 x }
 {
-    if x < 2147483648 {
-        return x as i32;
-    }
-    -1 - (4294967295 - x) as i32
+    x.cast_signed()
 }
 
 pub fn bits(z: i32) -> u32
     ensures { result ≡ of_z w32 z }
 {
-    if z >= 0 {
-        return z as u32;
-    }
-    4294967295 - (-1 - z) as u32
+    z.cast_unsigned()
 }

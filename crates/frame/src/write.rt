@@ -1,14 +1,11 @@
 // The frames of an answer, field by field, written as lines.
-ghost use Rattle.std.specs.Prelude.{◌≡◌, ◌+◌, ◌-◌, ◌%◌, ◌≤◌, [], ◌∷◌, length};
-ghost use Rattle.frame.specs.Hex.{Digits, line_of};
-ghost use Rattle.frame.specs.Written.{two_bytes, four_bytes, answer_line, move_line};
-ghost use Rattle.frame.specs.Puts.{puts, byte_text, laid, Added, LinePut};
-
-use crate::number::bits;
-use std::num;
+ghost use Rattle.std.specs.Prelude.{◌≡◌, ◌+◌, ◌≤◌, length};
+ghost use Rattle.frame.specs.Hex.{byte_text, line_of};
+ghost use Rattle.frame.specs.Written.{two_bytes, answer_line, move_line};
+ghost use Rattle.frame.specs.Puts.{puts, LinePut};
 
 // The numbers of a frame 20.
-#[derive(Clone, Copy)]
+#[derive(Clone, Copy, Debug, PartialEq, Eq)]
 pub struct Answer {
     pub line: u8,
     pub refusal: u8,
@@ -20,7 +17,7 @@ pub struct Answer {
 }
 
 // The numbers of a frame 21: on this track the wire runs from one column to another.
-#[derive(Clone, Copy)]
+#[derive(Clone, Copy, Debug, PartialEq, Eq)]
 pub struct Move {
     pub line: u8,
     pub wire: usize,
@@ -29,123 +26,65 @@ pub struct Move {
     pub to: i32,
 }
 
-// A frame's bytes but the sum's: the first `n` of `bytes`. The longest frame, 20, has 16.
-#[derive(Clone, Copy)]
-struct Fields {
-    bytes: [u8; 16],
-    n: usize,
-}
+// A table is read quicker than a digit is worked out.
+const DIGITS: &[u8; 16] = b"0123456789ABCDEF";
 
-fn low(x: usize) -> u8
-    ensures { result ≡ x % 256 }
+// The low two bytes of a number, the high one first.
+fn two(x: usize) -> [u8; 2]
+    ensures { result ≡ two_bytes x }
 {
-    (x % 256) as u8
+    ((x % 0x10000) as u16).to_be_bytes()
 }
 
-// A frame of this kind that has no field yet.
-fn frame(kind: u8) -> Fields
-    ensures { (result.n ≡ 1) × (laid result ≡ kind ∷ []) }
-{
-    Fields {
-        bytes: [kind; 16],
-        n: 1,
-    }
-}
-
-// A field after those that stand: one byte, or a number of two or of four.
-impl Fields {
-    fn one(mut self, b: u8) -> Fields
-        requires { self.n + 1 ≤ 16 }
-        ensures { Added (b ∷ []) self result }
-    {
-        let n = self.n;
-        self.bytes[n] = b;
-        self.n = n + 1;
-        self
-    }
-
-    fn two(self, x: usize) -> Fields
-        requires { self.n + 2 ≤ 16 }
-        ensures { Added (two_bytes x) self result }
-    {
-        self.one(low(x / 256)).one(low(x))
-    }
-
-    fn four(self, z: i32) -> Fields
-        requires { self.n + 4 ≤ 16 }
-        ensures { Added (four_bytes z) self result }
-    {
-        let x = bits(z) as usize;
-        self.two(x / 65536).two(x)
-    }
-}
-
-fn room(len: usize, at: usize) -> usize
-    ensures { result ≡ len - at }
-{
-    if at <= len { len - at } else { 0 }
-}
-
-#[tactic(auto, unfolding(crate::specs::Puts::puts, crate::specs::Hex::text_of))]
-fn put_byte(out: &mut [u8], at: usize, b: u8, digits: &[u8; 16])
-    requires { (at + 2 ≤ length out.old) × Digits digits.now }
+#[tactic(auto, using(crate::proofs::Puts::digit_at), unfolding(crate::specs::Puts::puts))]
+fn put_byte(out: &mut [u8], at: usize, b: u8)
+    requires { at + 2 ≤ length out.old }
     ensures { out.new ≡ puts out.old at (byte_text b) }
 {
-    out[at] = digits[(b / 16 % 16) as usize];
-    out[at + 1] = digits[(b % 16) as usize];
+    out[at] = DIGITS[(b / 16) as usize];
+    out[at + 1] = DIGITS[(b % 16) as usize];
 }
 
-// A frame's line into a buffer at place `at`, if it has room there: its bytes, the byte that makes their sum 0, a line feed; the place after it. The
-// digits are laid out once for a line: a table is read quicker than a digit is worked out.
-fn put_line(out: &mut [u8], at: usize, f: Fields) -> usize
-    requires { f.n ≤ 16 }
-    ensures { LinePut (line_of (laid f)) out.old at result out.new }
+// A frame's line into a buffer at place `at`, if it has room there: its bytes, the byte that makes their sum 0, a line feed; the place after it.
+fn put_line(out: &mut [u8], at: usize, bytes: &[u8]) -> usize
+    requires { length bytes.now ≤ 16 }
+    ensures { LinePut (line_of bytes.now) out.old at result out.new }
 {
-    let n = f.n;
-    if room(out.len(), at) < 2 * n + 3 {
+    let n = bytes.len();
+    if out.len().saturating_sub(at) < 2 * n + 3 {
         return at;
     }
-    let bytes = f.bytes;
-    let digits = *b"0123456789ABCDEF";
     let mut sum: u8 = 0;
-    let mut p = at;
-    let mut i: usize = 0;
-    while i < n {
-        let b = bytes[i];
-        sum = num::wrapping_add_u8(sum, b);
-        put_byte(out, p, b, &digits);
-        p += 2;
-        i += 1;
+    for (i, &b) in bytes.iter().enumerate() {
+        sum = sum.wrapping_add(b);
+        put_byte(out, at + 2 * i, b);
     }
-    put_byte(out, p, num::wrapping_sub_u8(0, sum), &digits);
-    out[p + 2] = 10;
-    p + 3
+    let last = at + 2 * n;
+    put_byte(out, last, sum.wrapping_neg());
+    out[last + 2] = b'\n';
+    last + 3
 }
 
 // A frame 20 into a buffer at place `at`, if it has room there; the place after it.
 pub fn put_answer(out: &mut [u8], at: usize, k: Answer) -> usize
     ensures { LinePut (answer_line k) out.old at result out.new }
 {
-    let f = frame(0x20)
-        .one(k.line)
-        .one(k.refusal)
-        .two(k.separation)
-        .four(k.lowest)
-        .four(k.highest)
-        .two(k.pair)
-        .one(k.side);
-    put_line(out, at, f)
+    let [s1, s0] = two(k.separation);
+    let [l3, l2, l1, l0] = k.lowest.to_be_bytes();
+    let [h3, h2, h1, h0] = k.highest.to_be_bytes();
+    let [p1, p0] = two(k.pair);
+    let bytes = [0x20, k.line, k.refusal, s1, s0, l3, l2, l1, l0, h3, h2, h1, h0, p1, p0, k.side];
+    put_line(out, at, &bytes)
 }
 
 // A frame 21 into a buffer at place `at`, if it has room there; the place after it.
 pub fn put_move(out: &mut [u8], at: usize, m: Move) -> usize
     ensures { LinePut (move_line m) out.old at result out.new }
 {
-    let f = frame(0x21)
-        .one(m.line)
-        .two(m.wire)
-        .two(m.track)
-        .four(m.from)
-        .four(m.to);
-    put_line(out, at, f)
+    let [w1, w0] = two(m.wire);
+    let [t1, t0] = two(m.track);
+    let [f3, f2, f1, f0] = m.from.to_be_bytes();
+    let [c3, c2, c1, c0] = m.to.to_be_bytes();
+    let bytes = [0x21, m.line, w1, w0, t1, t0, f3, f2, f1, f0, c3, c2, c1, c0];
+    put_line(out, at, &bytes)
 }

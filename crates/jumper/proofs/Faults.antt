@@ -1,4 +1,5 @@
 -- One step of `fault_after` at a place of the row, by the code's tests.
+use Rattle.std.specs.Prelude.{Ok, Err}
 use mathlib.Core.Path.{◌≡◌, refl}
 use mathlib.Core.Bool.{Bool, true, false}
 use mathlib.Core.List.{List}
@@ -14,8 +15,7 @@ use Rattle.wiring.specs.Wiring.{pad}
 use Rattle.jumper.specs.Limits.{first_column, last_column, AcceptedColumn}
 use Rattle.jumper.specs.Rows.{pick, fault_after}
 use Rattle.jumper.specs.declared.refusal.Refusal.TheVariants.{Column, Order}
-use Rattle.jumper.specs.declared.rows.Checked.{Checked}
-use Rattle.jumper.specs.declared.rows.Checked.TheVariants.{Accepted, Refused}
+use Rattle.jumper.specs.Rows.{Checked}
 
 -- a column out of range breaks one of the two tests
 outside : (x : ℤ) (r s : Checked) → (AcceptedColumn x → ⊥) → pick (lt_z x first_column) r (pick (lt_z last_column x) r s) ≡ r
@@ -27,12 +27,12 @@ outside x r s h = go (lt_z x first_column) refl (lt_z last_column x) refl
     go false p false q = absurd (h (record { low = false_lt x first_column p; high = false_lt last_column x q }))
 
 module _ (a : List ℤ) (p : ℤ) (base i : ℕ) (lt : i < length a) where
-  pub column : (AcceptedColumn (pad a i) → ⊥) → fault_after p (base + i) (drop i a) ≡ Refused (Column (base + i))
+  pub column : (AcceptedColumn (pad a i) → ⊥) → fault_after p (base + i) (drop i a) ≡ Err (Column (base + i))
   unfolding fault_after
-  column h = rw (drop-cons a i (pos 0)) (outside (pad a i) (Refused (Column (base + i))) _ h)
+  column h = rw (drop-cons a i (pos 0)) (outside (pad a i) (Err (Column (base + i))) _ h)
 
   module _ (c : AcceptedColumn (pad a i)) where
-    pub order : le_z (pad a i) p ≡ true → fault_after p (base + i) (drop i a) ≡ Refused (Order (base + i))
+    pub order : le_z (pad a i) p ≡ true → fault_after p (base + i) (drop i a) ≡ Err (Order (base + i))
     unfolding fault_after
     order k = rw (drop-cons a i (pos 0), lt_false (pad a i) first_column c.low, lt_false last_column (pad a i) c.high, k)
 
@@ -40,6 +40,6 @@ module _ (a : List ℤ) (p : ℤ) (base i : ℕ) (lt : i < length a) where
     unfolding fault_after
     next k = rw (drop-cons a i (pos 0), lt_false (pad a i) first_column c.low, lt_false last_column (pad a i) c.high, k, add-one, add-one, add-suc)
 
-pub done : (a : List ℤ) (p : ℤ) (base i : ℕ) → length a ≤ i → fault_after p (base + i) (drop i a) ≡ Accepted
+pub done : (a : List ℤ) (p : ℤ) (base i : ℕ) → length a ≤ i → fault_after p (base + i) (drop i a) ≡ (Ok tt)
 unfolding fault_after
 done a p base i le = rw drop_of_length-le

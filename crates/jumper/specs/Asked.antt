@@ -1,19 +1,17 @@
 -- What is asked about two rows, and the refusals 1 to 7 in 01's order ("Checks 1 to 11 go by number where the call has that input").
-use Rattle.std.specs.Prelude.{◌≡◌, List, ◌↔◌, ℕ, ◌≤◌, ltb, ℤ}
+use Rattle.std.specs.Prelude.{◌≡◌, Ok, Err, List, ◌↔◌, ℕ, ◌≤◌, ltb, ℤ}
 use Rattle.std.specs.Int.Signed.{lt_z}
 use Rattle.jumper.specs.Limits.{max_tracks, lowest_offset, highest_offset, AcceptedOffset}
-use Rattle.jumper.specs.Rows.{AcceptedRows, checked_numbers, pick, or_else, check_rows}
+use Rattle.jumper.specs.Rows.{AcceptedRows, Checked, checked_numbers, pick, or_else, check_rows}
 use Rattle.jumper.specs.declared.refusal.Refusal.TheVariants.{Tracks, Offset}
-use Rattle.jumper.specs.declared.rows.Checked.{Checked}
-use Rattle.jumper.specs.declared.rows.Checked.TheVariants.{Accepted, Refused}
 
 -- 02, #106: "TRACKS is given above 2,049"
 abbrev pub tracks_fault : ℕ → Checked
-tracks_fault s = pick (ltb max_tracks s) (Refused Tracks) Accepted
+tracks_fault s = pick (ltb max_tracks s) (Err Tracks) (Ok tt)
 
 -- "offset out of range"
 abbrev pub offset_fault : ℤ → Checked
-offset_fault d = pick (lt_z d lowest_offset) (Refused Offset) (pick (lt_z highest_offset d) (Refused Offset) Accepted)
+offset_fault d = pick (lt_z d lowest_offset) (Err Offset) (pick (lt_z highest_offset d) (Err Offset) (Ok tt))
 
 abbrev pub check_tracks : List ℤ → List ℤ → ℕ → Checked
 check_tracks a b s = or_else (check_rows a b) (tracks_fault s)

@@ -15,6 +15,10 @@ pub record Within (d : ℤ) (r : OffsetRange) : Type 0 where
 abbrev pub range_named : Numbers → OffsetRange
 range_named k = record { low = k.lowest; high = k.highest }
 
+-- the numbers of a range: its ends, and nothing else
+abbrev pub range_numbers : OffsetRange → Numbers
+range_numbers r = record { refusal = 0; place = 0; second = 0; separation = 0; lowest = r.low; highest = r.high; pair = 0; side = 0; count = 0 }
+
 abbrev pub whole_range : OffsetRange
 whole_range = record { low = lowest_offset; high = highest_offset }
 

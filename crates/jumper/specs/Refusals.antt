@@ -1,5 +1,5 @@
 -- 01, "What comes back": the number of each refusal, and the result numbers that it carries; all others are 0.
-use Rattle.std.specs.Prelude.{ℕ, pos}
+use Rattle.std.specs.Prelude.{◌≡◌, ℕ, pos, Result, Ok, Err}
 use Rattle.jumper.specs.declared.refusal.Side.{Side}
 use Rattle.jumper.specs.declared.refusal.Side.TheVariants.{Right, Left}
 use Rattle.jumper.specs.declared.refusal.Refusal.{Refusal}
@@ -36,3 +36,8 @@ refusal_numbers (BadWire i t) = refused_with 16 i t 0 0
 -- the numbers of an answer that refuses nothing and tells nothing
 abbrev pub nothing : Numbers
 nothing = refused_with 0 0 0 0 0
+
+-- What is said of an answer's numbers: of one that isn't refused, what is said of the numbers of what it tells; of another, that they are its refusal's.
+abbrev pub AnswerNumbers : {A : Type 0} → (A → Numbers → Type 0) → Result A Refusal → Numbers → Type 0
+AnswerNumbers Told (Ok x) n = Told x n
+AnswerNumbers Told (Err r) n = n ≡ refusal_numbers r

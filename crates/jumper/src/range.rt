@@ -1,9 +1,11 @@
 // A range of whole-number offsets, both ends in it; empty where its low end is above its high end.
 ghost use Rattle.std.specs.Prelude.{◌≡◌, true, ◌↔◌, ℤ};
 ghost use Rattle.jumper.specs.Limits.{AcceptedOffset};
-ghost use Rattle.jumper.specs.Range.{Within, whole_range, is_empty, meet_of};
+ghost use Rattle.jumper.specs.Range.{Within, whole_range, is_empty, meet_of, range_numbers};
 
-#[derive(Clone, Copy)]
+use crate::refusal::Numbers;
+
+#[derive(Clone, Copy, Debug, PartialEq, Eq, Hash)]
 pub struct OffsetRange {
     pub low: i32,
     pub high: i32,
@@ -37,8 +39,22 @@ impl OffsetRange {
         ensures answer { result ≡ meet_of self other }
         ensures meaning { (d : ℤ) → Within d result ↔ (Within d self × Within d other) }
     {
-        let low = whole::larger(self.low, other.low);
-        let high = whole::smaller(self.high, other.high);
-        Self { low, high }
+        Self {
+            low: self.low.max(other.low),
+            high: self.high.min(other.high),
+        }
+    }
+}
+
+// A range told in numbers: its ends.
+impl From<OffsetRange> for Numbers {
+    ghost from_gives = { λ r n. n ≡ range_numbers r };
+
+    fn from(r: OffsetRange) -> Numbers {
+        Numbers {
+            lowest: r.low,
+            highest: r.high,
+            ..Numbers::NOTHING
+        }
     }
 }

@@ -10,10 +10,7 @@ use crate::limits::MAX_TRACKS;
 pub fn rule_at(separation: usize) -> usize
     ensures { result ≡ rule_at separation }
 {
-    if 0 < separation {
-        return separation - 1;
-    }
-    0
+    separation.saturating_sub(1)
 }
 
 // The least separation at which the rule is read at this number, as far as separations are accepted: no number of pairs needs more.
@@ -21,11 +18,8 @@ pub fn rule_at(separation: usize) -> usize
 pub fn tracks_for(number: usize) -> usize
     ensures { result ≡ min (tracks_for number) max_tracks }
 {
-    if number == 0 {
-        return 0;
+    match number {
+        0 => 0,
+        r => r.saturating_add(1).min(MAX_TRACKS),
     }
-    if MAX_TRACKS <= number {
-        return MAX_TRACKS;
-    }
-    number + 1
 }

@@ -5,6 +5,7 @@ use mathlib.Core.Logic.{◌⊎◌, inl, inr, ⊎_elim}
 use lib.Dec.{T}
 use lib.IntN.{ℤ}
 use lib.Signed.{◌≤ℤ◌, ◌<ℤ◌, lt_z, le_z}
+use Rattle.std.specs.Int.{int_max, int_min}
 use Rattle.whole.specs.Pick.{larger_of, smaller_of}
 use Rattle.whole.proofs.Arith.{arithℤ, ≤_or_<}
 
@@ -93,3 +94,15 @@ smaller_left x y h = let l = smaller_law x y in ⊎_elim (λ g. g) (λ g. omega 
 
 pub smaller_right : (x y : ℤ) → y ≤ℤ x → smaller_of x y ≡ y
 smaller_right x y h = let l = smaller_law x y in ⊎_elim (λ g. omega arithℤ) (λ g. g) l.one
+
+-- and as std says them of `max` and `min`
+pub larger_is : (x y : ℤ) → int_max x y ≡ larger_of x y
+larger_is x y = go (lt_z y x) refl
+  where
+    go : (t : Bool) → lt_z y x ≡ t → cond t x y ≡ larger_of x y
+    go true e = sym (larger_left x y (omega (arithℤ, true_lt y x e)))
+    go false e = sym (larger_right x y (false_lt y x e))
+
+pub smaller_is : (x y : ℤ) → int_min x y ≡ smaller_of x y
+unfolding smaller_of
+smaller_is x y = refl

@@ -1,13 +1,13 @@
-use Rattle.best.proofs.Plans.{keeps_plan, planned}
+use Rattle.best.proofs.Plans.{best_inside, planned}
 use Rattle.best.proofs.plan.halve.Goals as goal
 
-pub kept_or_read-range-requires : goal.kept_or_read-range-requires
-kept_or_read-range-requires c =
-    let a = c.args in
-    keeps_plan a.a.now a.b.now a.ladder.now c.requires _ c.climb-level.result c.climb-level.ensures
+pub range-requires-clause-inside : goal.range-requires-clause-inside
+range-requires-clause-inside c = best_inside c.whole-entries.result _ _ _ c.climb-level.ensures
+
+pub range-requires-clause-kept : goal.range-requires-clause-kept
+range-requires-clause-kept c = rw c.climb-level.ensures.level.best c.climb-level.ensures.level.kept
 
 pub returns : goal.returns
 returns c =
-    let a = c.args in
-    planned a.a.now a.b.now a.ladder.now c.requires _ c.climb-level.result c.climb-level.ensures
-    c.kept_or_read-range.result _ c.kept_or_read-range.ensures c.tracks_for.ensures
+    let e = c.whole-entries in
+    planned e.result _ _ _ c.climb-level.ensures c.args.rows c.range.result _ e.ensures.of e.ensures.step e.ensures.len c.range.ensures c.tracks_for.ensures

@@ -2,8 +2,8 @@ use Rattle.std.proofs.Common.{◌-◌, length}
 use Rattle.fit.proofs.Leasts.{Seeking}
 use Rattle.fit.proofs.least.seek_least.Given as goal
 
-abbrev pub invariant-loop-t : goal.invariant-loop-t
-invariant-loop-t l = Seeking l.a l.b l.d l.s l.i l.right
+abbrev pub invariant-loop-m : goal.invariant-loop-m
+invariant-loop-m l = Seeking l.q.rows.bottom.now l.q.rows.top.now l.q.offset l.s l.from l.witness
 
-abbrev pub decreases-loop-t : goal.decreases-loop-t
-decreases-loop-t l = length l.a - l.s
+abbrev pub decreases-loop-m : goal.decreases-loop-m
+decreases-loop-m l = length l.q.rows.bottom.now - l.s

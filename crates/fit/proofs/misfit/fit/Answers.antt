@@ -1,26 +1,14 @@
-use Rattle.std.proofs.Common.{sym, ◌∙◌, w32}
+use Rattle.std.proofs.Common.{None, Some, sym, ◌∙◌, w32}
 use Rattle.std.proofs.lemmas.Int.{to_z-of_z}
-use Rattle.jumper.proofs.Checks.{accepted_asked}
-use Rattle.jumper.proofs.Wired.{asked_rule}
+use Rattle.jumper.proofs.Checks.{passed_on}
 use Rattle.fit.proofs.Misfits.{fit_refused, fit_found}
 use Rattle.fit.proofs.misfit.fit.Goals as goal
 
-pub first_misfit-requires : goal.first_misfit-requires
-first_misfit-requires c = rw c.rule_at-r.ensures (asked_rule (accepted_asked _ _ _ _ (sym c.check_asked.ensures.answer ∙ c.in-Accepted.is)))
-
-pub returns-in-Refused : goal.returns-in-Refused
-returns-in-Refused c =
-    let e = to_z-of_z w32 c.args.d c.ranges.d in
-    fit_refused _ _ _ _ _ (sym (rw e at c.check_asked.ensures.answer) ∙ c.in-Refused.is)
+pub returns-in_err-check : goal.returns-in_err-check
+returns-in_err-check c = rw (passed_on _ c.from_residual.ensures.1) (fit_refused _ _ _ _ _ (rw (to_z-of_z w32 c.args.d c.ranges.d) at c.in_err-check.ensures.err))
 
 pub returns-in-None : goal.returns-in-None
-returns-in-None c =
-    let e = to_z-of_z w32 c.args.d c.ranges.d in
-    let asked = sym (rw e at c.check_asked.ensures.answer) ∙ c.in-Accepted.is in
-    fit_found _ _ _ _ _ asked (sym c.in-None.is ∙ rw (e, c.rule_at-r.ensures) at c.first_misfit.ensures)
+returns-in-None c = fit_found c.in_ok-check.field-0 (rw (to_z-of_z w32 c.args.d c.ranges.d) at c.in_ok-check.ensures.ok) None (sym c.in-None.is ∙ c.first_misfit.ensures)
 
-pub returns-in-At : goal.returns-in-At
-returns-in-At c =
-    let e = to_z-of_z w32 c.args.d c.ranges.d in
-    let asked = sym (rw e at c.check_asked.ensures.answer) ∙ c.in-Accepted.is in
-    fit_found _ _ _ _ _ asked (sym c.in-At.is ∙ rw (e, c.rule_at-r.ensures) at c.first_misfit.ensures)
+pub returns-in-Some : goal.returns-in-Some
+returns-in-Some c = fit_found c.in_ok-check.field-0 (rw (to_z-of_z w32 c.args.d c.ranges.d) at c.in_ok-check.ensures.ok) (Some c.in-Some.m) (sym c.in-Some.is ∙ c.first_misfit.ensures)

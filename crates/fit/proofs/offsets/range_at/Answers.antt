@@ -1,15 +1,18 @@
 use Rattle.std.proofs.Common.{sym, ◌∙◌}
-use Rattle.jumper.proofs.Checks.{accepted_tracks}
+use Rattle.jumper.proofs.Checks.{passed_on, accepted_tracks}
 use Rattle.jumper.proofs.Wired.{tracks_rule}
 use Rattle.fit.proofs.Spans.{range_refused, range_answer}
 use Rattle.fit.proofs.offsets.range_at.Goals as goal
 
+pub returns-in_err-check_tracks : goal.returns-in_err-check_tracks
+returns-in_err-check_tracks c = rw (passed_on _ c.from_residual.ensures.1) (range_refused _ _ _ _ (sym c.check_tracks.ensures.answer ∙ c.in_err-check_tracks.was))
+
 pub range_found-requires : goal.range_found-requires
-range_found-requires c = rw (sym c.rule_at-r.ensures) at (tracks_rule {a = c.args.a.now} {b = c.args.b.now} {s = c.args.s} (accepted_tracks _ _ _ (sym c.check_tracks.ensures.answer ∙ c.in-Accepted.is)))
+range_found-requires c =
+    let k = accepted_tracks c.args.a.now c.args.b.now c.args.s (sym c.check_tracks.ensures.answer ∙ c.in_ok-check_tracks.was) in
+    rw c.rule_at.ensures (tracks_rule k).tracks
 
-pub returns-in-Refused : goal.returns-in-Refused
-returns-in-Refused c = range_refused _ _ _ _ (sym c.check_tracks.ensures.answer ∙ c.in-Refused.is)
-
-pub returns-in-Accepted : goal.returns-in-Accepted
-returns-in-Accepted c =
-    rw c.range_found.ensures (rw (sym c.rule_at-r.ensures) at (range_answer c.args.a.now c.args.b.now c.args.s (accepted_tracks _ _ _ (sym c.check_tracks.ensures.answer ∙ c.in-Accepted.is))))
+pub returns : goal.returns
+returns c =
+    let k = accepted_tracks c.args.a.now c.args.b.now c.args.s (sym c.check_tracks.ensures.answer ∙ c.in_ok-check_tracks.was) in
+    rw (c.range_found.ensures, c.rule_at.ensures) (range_answer c.args.a.now c.args.b.now c.args.s k)

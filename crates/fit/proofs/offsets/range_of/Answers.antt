@@ -10,16 +10,16 @@ use Rattle.fit.proofs.offsets.range_of.Goals as goal
 pub overflow_sub-result : goal.overflow_sub-result
 overflow_sub-result c =
     let s = c.args.s in
-    let r = c.requires.0.rows in
+    let r = c.args.rows.accepted in
     let f : SFits w32 c.gaps_of-g.result.high = search rules in
-    rw (to_z-of_z w32 _ f, to_z_pos w32 s (omega (arith, r.few, c.requires.1)), c.gaps_of-g.ensures) (record { sfits = fit_high_gap r s c.requires.1 })
+    rw (to_z-of_z w32 _ f, to_z_pos w32 s (omega (arith, r.few, c.requires)), c.gaps_of-g.ensures) (record { sfits = fit_high_gap r s c.requires })
 
 pub returns : goal.returns
 returns c =
     let s = c.args.s in
-    let a = c.args.a.now in
-    let b = c.args.b.now in
-    let r = c.requires.0.rows in
+    let a = c.args.rows.bottom.now in
+    let b = c.args.rows.top.now in
+    let r = c.args.rows.accepted in
     let fl : SFits w32 c.gaps_of-g.result.low = search rules in
     let fh : SFits w32 c.gaps_of-g.result.high = search rules in
-    rw (to_z-of_z w32 _ fl, to_z-of_z w32 _ fh, to_z_pos w32 s (omega (arith, r.few, c.requires.1)), c.gaps_of-g.ensures, back ((gaps_of a b s).low +ℤ pos s) (fit_low_gap r s c.requires.1), back ((gaps_of a b s).high -ℤ pos s) (fit_high_gap r s c.requires.1), low_of_gaps a b s, high_of_gaps a b s)
+    rw (to_z-of_z w32 _ fl, to_z-of_z w32 _ fh, to_z_pos w32 s (omega (arith, r.few, c.requires)), c.gaps_of-g.ensures, back ((gaps_of a b s).low +ℤ pos s) (fit_low_gap r s c.requires), back ((gaps_of a b s).high -ℤ pos s) (fit_high_gap r s c.requires), low_of_gaps a b s, high_of_gaps a b s)

@@ -1,18 +1,16 @@
 use Rattle.std.proofs.Common.{sym, ◌∙◌, w32}
 use Rattle.std.proofs.lemmas.Int.{to_z-of_z}
-use Rattle.jumper.proofs.Checks.{accepted_asked}
-use Rattle.jumper.proofs.Wired.{asked_rule}
 use Rattle.fit.proofs.Misfits.{at_broken, broken_inside}
+use Rattle.fit.proofs.Stretches.{placed}
 use Rattle.fit.proofs.stretch.stretch_place.Goals as goal
 
-pub first_misfit-requires : goal.first_misfit-requires
-first_misfit-requires c = rw c.rule_at-r.ensures (asked_rule (accepted_asked _ _ _ _ (sym c.check_asked.ensures.answer ∙ c.in-Accepted.is)))
+pub narrower-requires : goal.narrower-requires
+narrower-requires c =
+    let q = c.in-Ok.q in
+    let e = rw (to_z-of_z w32 c.args.d c.ranges.d) at c.in-Ok.ensures.ok in
+    rw (c.rule_at.ensures, ← e.2) (broken_inside (at_broken q.rows.bottom.now q.rows.top.now _ q.offset c.in-Some.m (sym c.first_misfit.ensures ∙ c.in-Some.is)))
 
-pub narrower_place-requires : goal.narrower_place-requires
-narrower_place-requires c =
-    let e = to_z-of_z w32 c.args.d c.ranges.d in
-    let a = c.args.a.now in
-    let b = c.args.b.now in (
-      (accepted_asked a b c.args.s c.args.d (sym (rw e at c.check_asked.ensures.answer) ∙ c.in-Accepted.is)).rows,
-      broken_inside (at_broken a b _ c.args.d _ _ (sym (rw e at c.first_misfit.ensures) ∙ c.in-At.is)),
-    )
+pub returns-in-Some : goal.returns-in-Some
+returns-in-Some c =
+    let e = rw (to_z-of_z w32 c.args.d c.ranges.d) at c.in-Ok.ensures.ok in
+    placed c.in-Ok.q e c.in-Some.m (sym c.in-Some.is ∙ c.first_misfit.ensures) _ (rw c.rule_at.ensures at c.narrower.ensures)

@@ -1,9 +1,13 @@
-use Rattle.std.proofs.Common.{arith}
-use Rattle.frame.proofs.Scan.{worths_more, worths_end}
+use Rattle.std.proofs.Common.{◌≡◌, ◌<◌, ◌≢◌, length, get_or, set, arith, get_or-set_other, get_or-set_same, below_more}
+use Rattle.frame.specs.Hex.{worth}
+use Rattle.frame.proofs.Scan.{worth_read, worths_more}
 use Rattle.frame.proofs.hex.worths_of.Goals as goal
 
 pub loop-i-preserved : goal.loop-i-preserved
-loop-i-preserved c = worths_more _ _ _ _ _ _ c.loop-i-test.true (omega arith) c.digit-d.ensures c.larger-most.ensures c.loop-i.invariant
-
-pub returns : goal.returns
-returns c = worths_end _ _ _ _ c.loop-i-test.false c.loop-i.invariant
+loop-i-preserved c =
+    let e = worth_read _ _ (rw c.digit.ensures at c.unwrap_or-worth.ensures) in (
+      worths_more _ _ _ _ _ c.loop-i-test.true e c.max-most.ensures c.loop-i.invariant.0,
+      below_more _ _
+      (λ k h. let ne : k ≢ c.loop-i.i = omega arith in rw get_or-set_other (c.loop-i.invariant.1 k h))
+      (let lt : c.loop-i.i < length c.loop-i.worths = omega arith in rw get_or-set_same e),
+    )

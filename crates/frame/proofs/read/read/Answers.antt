@@ -1,12 +1,14 @@
-use Rattle.std.proofs.Common.{refl}
-use Rattle.frame.proofs.Frames.{empty_bad, fed_is, unfed_is, bad_read, read_as}
+use Rattle.std.proofs.Common.{sym, ◌∙◌, ap}
+use Rattle.frame.specs.Frame.{text_frame}
+use Rattle.frame.proofs.Frames.{bad_read, unfed_bad, fed_is, fed_text}
 use Rattle.frame.proofs.read.read.Goals as goal
 
-pub returns-then-line-eq0 : goal.returns-then-line-eq0
-returns-then-line-eq0 c = bad_read _ _ (empty_bad _ c.if-line-eq0.true)
-
-pub returns-then-line-n-eq10 : goal.returns-then-line-n-eq10
-returns-then-line-n-eq10 c = read_as _ _ _ _ _ (fed_is c.args.line.now _ c.if-line-eq0.false refl c.if-line-n-eq10.true) c.read_text.ensures
+pub returns-in_err-strip_suffix : goal.returns-in_err-strip_suffix
+returns-in_err-strip_suffix c =
+    rw c.from_residual.ensures (bad_read _ _ (unfed_bad _ (sym (fed_is c.args.line.now) ∙ c.in_err-strip_suffix.ensures.cases)))
 
 pub returns : goal.returns
-returns c = bad_read _ _ (unfed_is _ _ c.if-line-eq0.false refl c.if-line-n-eq10.false)
+returns c =
+    let h = c.in_ok-strip_suffix.ensures.cases in
+    let e = fed_text c.args.line.now (sym (fed_is c.args.line.now) ∙ h.0) ∙ ap text_frame (sym h.1) in
+    rw e c.read_text.ensures

@@ -1,35 +1,24 @@
-use Rattle.std.proofs.Common.{sym, arith, get_or-take, rules}
-use Rattle.frame.proofs.Puts.{laid_length, line_not_put, line_start, line_byte, line_end, digits_are}
+use Rattle.std.proofs.Common.{◌≡◌, ◌≤◌, ◌%◌, length, take, sum, refl, ap, ◌∙◌, arith}
+use Rattle.std.proofs.lemmas.Grind.{common_steps}
+use Rattle.std.proofs.lemmas.List.{take_all}
+use Rattle.frame.specs.Hex.{text_of}
+use Rattle.frame.specs.Puts.{puts}
+use Rattle.frame.proofs.Puts.{line_start, line_more, line_end, is_last, not_put}
 use Rattle.frame.proofs.write.put_line.Goals as goal
 
-pub returns-then-room-n : goal.returns-then-room-n
-returns-then-room-n c = line_not_put _ (laid_length c.args.f (search rules) c.requires) (omega arith)
+pub returns-then-saturating_sub-n : goal.returns-then-saturating_sub-n
+returns-then-saturating_sub-n c = not_put _ _ _ (omega arith)
 
 pub loop-i-init : goal.loop-i-init
-loop-i-init c = line_start (laid_length _ (search rules) c.requires)
-
-pub put_byte-requires : goal.put_byte-requires
-put_byte-requires c = (omega arith, digits_are)
+loop-i-init c = (line_start _ c.args.bytes.now _, refl)
 
 pub loop-i-preserved : goal.loop-i-preserved
-loop-i-preserved c =
-    line_byte
-    c.loop-i.invariant
-    c.loop-i-test.true
-    (sym (get_or-take _ _ _ _ c.loop-i-test.true))
-    c.put_byte.ensures
-    c.put_byte.auto.out
-    c.wrapping_add_u8-sum.ensures.value
-
-pub put_byte-requires-2 : goal.put_byte-requires-2
-put_byte-requires-2 c = (omega arith, digits_are)
+loop-i-preserved c = (line_more _ _ _ _ _ _ c.loop-i-test.true c.loop-i.invariant.0 c.put_byte.ensures, grind (arith, common_steps))
 
 pub returns : goal.returns
 returns c =
-    line_end
-    c.loop-i.invariant
-    c.loop-i-test.false
-    (omega arith)
-    (omega arith)
-    c.wrapping_sub_u8.ensures.value
+    let all = take_all c.loop-i.i c.args.bytes.now c.loop-i-test.false in
+    line_end _ _ _ _ _ _ _ refl (omega arith)
+    (rw all at c.loop-i.invariant.0)
+    (is_last _ _ _ (rw all at c.loop-i.invariant.1) c.wrapping_neg.ensures c.wrapping_neg.type_inv)
     c.put_byte-2.ensures

@@ -1,9 +1,7 @@
-use Rattle.std.proofs.Common.{◌-◌, take}
-use Rattle.frame.proofs.Puts.{Writing}
+use Rattle.std.proofs.Common.{◌≡◌, ◌%◌, take, sum}
+use Rattle.frame.specs.Hex.{text_of}
+use Rattle.frame.specs.Puts.{puts}
 use Rattle.frame.proofs.write.put_line.Given as goal
 
 abbrev pub invariant-loop-i : goal.invariant-loop-i
-invariant-loop-i l = Writing l.initial.out l.at (take l.n l.bytes) l.n l.out l.sum l.p l.i
-
-abbrev pub decreases-loop-i : goal.decreases-loop-i
-decreases-loop-i l = l.n - l.i
+invariant-loop-i l = (l.out ≡ puts l.initial.out l.at (text_of (take l.i l.bytes))) × (l.sum ≡ sum (take l.i l.bytes) % 256)

@@ -1,0 +1,72 @@
+// The entries of a level of the halving, read where they stand in the rows, and the range of the rule at a number among them.
+ghost use Rattle.std.specs.Prelude.{◌≡◌, ◌*◌, ◌<◌, length};
+ghost use Rattle.best.specs.Strides.{Strided};
+
+use crate::read::read;
+use jumper::range::OffsetRange;
+use jumper::rows::Rows;
+
+// Entry j of x is pad step j of the bottom row, less step j; that of y is the top row's.
+#[derive(Clone, Copy)]
+pub(crate) struct Entries<'a> {
+    pub(crate) rows: Rows<'a>,
+    pub(crate) step: usize,
+    pub(crate) len: usize,
+    ghost strided: { Strided (length rows.bottom.now) step len },
+}
+
+impl<'a> Entries<'a> {
+    ghost use Rattle.wiring.specs.Fit.{half};
+    ghost use Rattle.jumper.specs.Span.{range_of};
+    ghost use Rattle.best.specs.Halving.{read_at};
+    ghost use Rattle.best.specs.Work.{x_of, y_of};
+
+    // All of x and y.
+    pub(crate) fn whole(rows: Rows<'a>) -> Self
+        ensures of { result.rows ≡ rows.entry }
+        ensures step { result.step ≡ 1 }
+        ensures len { result.len ≡ length rows.entry.bottom.now }
+    {
+        Entries {
+            rows,
+            step: 1,
+            len: rows.bottom.len(),
+        }
+    }
+
+    // Entries 0, 2, 4 ..
+    pub(crate) fn even_half(self) -> Self
+        requires { 1 < self.len }
+        ensures of { result.rows ≡ self.entry.rows }
+        ensures step { result.step ≡ 2 * self.entry.step }
+        ensures len { result.len ≡ half self.entry.len }
+    {
+        Entries {
+            rows: self.rows,
+            step: 2 * self.step,
+            len: (self.len + 1) / 2,
+        }
+    }
+
+    // The range at s. Each low end is step s further on than the difference that is read for it, and each high end as much less: this is added once.
+    pub(crate) fn range_at(self, s: usize) -> OffsetRange
+        requires { s < self.len }
+        ensures { result ≡ range_of self.entry.len (x_of self.entry) (y_of self.entry) s }
+    {
+        let gap = self.step * s;
+        let read = read(self.rows, self.step, gap, self.len - s);
+        let shift = gap as i32;
+        OffsetRange {
+            low: read.low + shift,
+            high: read.high - shift,
+        }
+    }
+
+    // How many differences are read for the range at s: two for each entry that has one s further on.
+    pub(crate) fn differences(self, s: usize) -> usize
+        requires { s < self.len }
+        ensures { result ≡ read_at self.entry.len s }
+    {
+        2 * (self.len - s)
+    }
+}
