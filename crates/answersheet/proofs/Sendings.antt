@@ -1,8 +1,8 @@
 -- What calls that write do one after the other.
-use Rattle.std.proofs.Common.{IfSome, append-nil, ◌≡◌, refl, sym, ap, ◌∙◌, Option, List, [], ◌++◌, append_assoc, ℕ, ◌-◌, ◌≤◌, length, take, drop, arith}
+use Rattle.std.proofs.Common.{◌≡◌, refl, sym, ap, ◌∙◌, Option, List, [], ◌++◌, append_assoc, ℕ, ◌-◌, ◌≤◌, length, take, drop, arith}
 use Rattle.std.proofs.lemmas.Grind.{common_steps}
-use Rattle.std.specs.Io.KnownBytes.{Appends, Consumes, IsAtEnd}
-use Rattle.std.proofs.KnownBytes.{Appends-nil, Appends-trans, Consumes-nil, Consumes-trans, Consumes-whole}
+use Rattle.std.specs.Io.KnownBytes.{Consumes}
+use Rattle.std.proofs.KnownBytes.{Appends-nil, Appends-trans, Consumes-nil, Consumes-trans}
 use Rattle.answersheet.specs.Sent.{Sends, Reads}
 
 -- one call after another; what is due between them may stand in another way

@@ -48,8 +48,8 @@ impl<W: Write, E: Eprint> Desk<'_, '_, W, E> {
     ghost use Rattle.std.specs.Prelude.{ℕ, List, [], ◌++◌};
     ghost use Rattle.answersheet.specs.Sent.{due, Sends, Sent, Drained};
 
-    fn tell(&self, words: &str) -> Stopped {
-        let _ = self.errors.eprintln(words);
+    fn tell(&self, error: &str) -> Stopped {
+        let _ = eprintln!(self.errors; "answersheet: {error}");
         Stopped
     }
 
@@ -59,9 +59,9 @@ impl<W: Write, E: Eprint> Desk<'_, '_, W, E> {
         ensures sends { OnOk result (Sends (W.contents self.old.output.now) (W.contents self.new.output.now) (due self.old) (due self.new)) }
         ensures sent { OnOk result (Sent self.old self.new) }
     {
-        self.output.write_all(self.out.waiting()).map_err(|_| self.tell(
-            "answersheet: standard output can't be written",
-        ))?;
+        self.output
+            .write_all(self.out.waiting())
+            .map_err(|_| self.tell("standard output can't be written"))?;
         self.out.n = 0;
         Ok(())
     }
@@ -158,7 +158,7 @@ fn run<R: Read, W: Write, E: Eprint>(
             // What is answered already is sent before that is told.
             Err(_) => {
                 let _ = desk.send();
-                return Err(desk.tell("answersheet: standard input can't be read"));
+                return Err(desk.tell("standard input can't be read"));
             }
         }
     }

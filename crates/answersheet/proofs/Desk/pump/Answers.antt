@@ -1,4 +1,4 @@
-use Rattle.std.proofs.Common.{rules, ◌∙◌}
+use Rattle.std.proofs.Common.{rules}
 use Rattle.answersheet.proofs.Sendings.{sends_on, sends_before, rest_of}
 use Rattle.answersheet.proofs.Desk.pump.Goals as goal
 
