@@ -95,6 +95,7 @@ impl<W: Write, E: Eprint> Desk<'_, '_, W, E> {
     }
 
     // All that is still to write, sent.
+    #[tactic(auto, using(crate::proofs::Sendings::sends_on, sheet::proofs::Feeds::gave_on))]
     fn drain(&mut self) -> Result<(), Stopped>
         ensures same_output { self.new.output.ghost_name ≡ self.old.output.ghost_name }
         ensures sends { OnOk result (Sends (W.contents self.old.output.now) (W.contents self.new.output.now) (due self.old) (due self.new)) }
@@ -130,6 +131,7 @@ impl<W: Write, E: Eprint> Desk<'_, '_, W, E> {
 }
 
 // The whole sheet. After an error that was told nothing more is answered.
+#[tactic(auto, using(crate::proofs::Sendings::nothing_read, crate::proofs::Sendings::reads_on))]
 fn run<R: Read, W: Write, E: Eprint>(
     input: &mut R,
     output: &mut W,
