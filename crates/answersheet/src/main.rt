@@ -46,7 +46,7 @@ struct Desk<'o, 'e, W, E> {
 
 impl<W: Write, E: Eprint> Desk<'_, '_, W, E> {
     ghost use Rattle.std.specs.Prelude.{ℕ, List, [], ◌++◌};
-    ghost use Rattle.answersheet.specs.Sent.{due, Sends, Sent, Drained};
+    ghost use Rattle.answersheet.specs.Sent.{due, Writes, Sends, Sent, Drained};
 
     fn tell(&self, error: &str) -> Stopped {
         let _ = eprintln!(self.errors; "answersheet: {error}");
@@ -55,8 +55,7 @@ impl<W: Write, E: Eprint> Desk<'_, '_, W, E> {
 
     // What waits in the buffer, sent.
     fn send(&mut self) -> Result<(), Stopped>
-        ensures same_output { self.new.output.ghost_name ≡ self.old.output.ghost_name }
-        ensures sends { OnOk result (Sends (W.contents self.old.output.now) (W.contents self.new.output.now) (due self.old) (due self.new)) }
+        ensures sends { OnOk result (Sends W.contents self.old.output self.new.output (due self.old) (due self.new)) }
         ensures sent { OnOk result (Sent self.old self.new) }
     {
         self.output
@@ -68,9 +67,7 @@ impl<W: Write, E: Eprint> Desk<'_, '_, W, E> {
 
     // A piece of the sheet: whenever the buffer is full it is sent.
     fn pump(&mut self, piece: &[u8]) -> Result<(), Stopped>
-        ensures same_output { self.new.output.ghost_name ≡ self.old.output.ghost_name }
-        ensures sends { OnOk result (Sends (W.contents self.old.output.now) (W.contents self.new.output.now)
-            (λ rest. due self.old (piece.now ++ rest)) (due self.new)) }
+        ensures { OnOk result (Sends W.contents self.old.output self.new.output (λ rest. due self.old (piece.now ++ rest)) (due self.new)) }
     {
         let mut rest = piece;
         for _ in 0..u64::MAX {
@@ -97,8 +94,7 @@ impl<W: Write, E: Eprint> Desk<'_, '_, W, E> {
     // All that is still to write, sent.
     #[tactic(auto, using(crate::proofs::Sendings::sends_on, sheet::proofs::Feeds::gave_on))]
     fn drain(&mut self) -> Result<(), Stopped>
-        ensures same_output { self.new.output.ghost_name ≡ self.old.output.ghost_name }
-        ensures sends { OnOk result (Sends (W.contents self.old.output.now) (W.contents self.new.output.now) (due self.old) (due self.new)) }
+        ensures sends { OnOk result (Sends W.contents self.old.output self.new.output (due self.old) (due self.new)) }
         ensures drained { OnOk result (Drained self.old self.new) }
     {
         for _ in 0..u64::MAX {
@@ -121,8 +117,7 @@ impl<W: Write, E: Eprint> Desk<'_, '_, W, E> {
 
     // The sheet ends: what is still to write is sent, and then what its end calls for.
     fn end(&mut self) -> Result<(), Stopped>
-        ensures same_output { self.new.output.ghost_name ≡ self.old.output.ghost_name }
-        ensures all { OnOk result (Appends (W.contents self.old.output.now) (W.contents self.new.output.now) (due self.old [])) }
+        ensures { OnOk result (Writes W.contents self.old.output self.new.output (due self.old [])) }
     {
         self.drain()?;
         self.state = finish(&self.line, self.state);
