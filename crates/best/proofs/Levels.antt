@@ -46,6 +46,12 @@ unfolding levels_in
 more_levels zero h = absurd (omega arith)
 more_levels (suc f) h = rw (lt-ltb 1 (suc f) h, enough_levels f (half (suc f)) (half (suc f)) (omega arith) (omega arith))
 
+pub no_more_levels : (m : ℕ) → 1 ≤ m → m ≤ 1 → levels m ≡ 1
+no_more_levels m h k = let e : m ≡ 1 = omega arith in rw (e, one_level)
+
+pub level_up : (m k : ℕ) → 1 < m → m ≤ 2 * k → 2 * k ≤ m + 1 → levels m ≡ levels k + 1
+level_up m k h low high = let e : half m ≡ k = omega arith in rw e at (more_levels m h)
+
 pub some_levels : (m : ℕ) → 1 ≤ m → 1 ≤ levels m
 some_levels m h = ⊎_elim (λ e. rw (← e, one_level) (omega arith)) (λ l. omega (arith, more_levels m l)) (eq-or-lt_of_le h)
 

@@ -6,7 +6,6 @@ pub mod Bests
 mod Strides
 mod Ends
 mod Choices
-mod Ladders
 mod Climbs
 mod Plans
 pub mod Answers

@@ -2,32 +2,32 @@
 use mathlib.Core.Path.{◌≡◌, sym, ◌∙◌, fun_ext}
 use mathlib.Core.List.{List}
 use Prim.Native.Nat.{ℕ, ◌+◌, ◌-◌, ◌*◌, ◌≤◌, ◌<◌, ◌^◌}
-use native.Mathlib.Nat.{one-mul, mul-add, mul_assoc, mul_left_comm, mul-le-mul_left, le-mul_of_pos_right}
+use native.Mathlib.Nat.{one-mul, mul-add, mul_assoc, mul_left_comm, mul-le-mul_left}
 use native.Mathlib.Omega.{arith}
 use lib.ListN.{length}
 use lib.IntN.{ℤ, pos, neg_ℤ, ◌+ℤ◌, ◌-ℤ◌, nat_abs}
 use lib.Signed.{mag}
+use mir.Syntax.{w32}
+use mir.Val.{to_z, of_z, SFits}
+use Rattle.std.proofs.lemmas.Int.{to_z_pos}
 use Rattle.whole.specs.Pick.{largest_at, smallest_at, largest, smallest}
 use Rattle.whole.proofs.Arith.{arithℤ, dif, sum}
-use Rattle.whole.proofs.Machine.{abs_sum, abs_dif, fits32}
+use Rattle.whole.proofs.Machine.{back, abs_sum, abs_dif, fits32}
 use Rattle.whole.proofs.Extremes.{largest_further, smallest_further}
 use Rattle.wiring.specs.Wiring.{pad}
-use Rattle.wiring.specs.Fit.{lean_of, Rising, Steady, low_end, high_end, evens, half}
+use Rattle.wiring.specs.Fit.{lean_of, Rising, Steady, low_end, high_end, evens}
 use Rattle.wiring.proofs.Rule.{lean_steady}
-use Rattle.jumper.specs.Limits.{max_pairs}
 use Rattle.jumper.specs.Rows.{AcceptedRows}
 use Rattle.jumper.specs.Span.{range_of}
 use Rattle.jumper.specs.declared.range.OffsetRange.{OffsetRange}
 use Rattle.jumper.proofs.Accepted.{near}
 use Rattle.best.specs.Strides.{Strided}
-use Rattle.best.specs.Work.{level_entries, low_read, high_read, read_of, Readable}
+use Rattle.best.specs.declared.entries.Entries.{Entries}
+use Rattle.best.specs.Work.{level_entries, x_of, y_of, low_read, high_read, read_of}
 
 -- at stride 1 they are x and y
 pub whole_entries : (a : List ℤ) → level_entries a 1 ≡ lean_of a
 whole_entries a = fun_ext (λ j. rw (one-mul j))
-
-pub whole_strided : {n : ℕ} → 1 ≤ n → n ≤ max_pairs → Strided n 1 n
-whole_strided {n} h k = record { some = h; few = k; inside = rw (one-mul (n - 1)) (omega arith) }
 
 -- "the even half (entries 0, 2, 4 .. of x and y)" stands at twice the stride
 twice_times : (p j : ℕ) → 2 * p * j ≡ p * (2 * j)
@@ -36,17 +36,13 @@ twice_times p j = mul_assoc 2 p j ∙ mul_left_comm 2 p j
 pub even_entries : (a : List ℤ) (p : ℕ) → evens (level_entries a p) ≡ level_entries a (2 * p)
 even_entries a p = fun_ext (λ j. rw (twice_times p j))
 
-pub even_strided : {n p m : ℕ} → 1 < m → Strided n p m → Strided n (2 * p) (half m)
-even_strided {n} {p} {m} more s =
+pub even_strided : {n p m k : ℕ} → 1 < m → m ≤ 2 * k → 2 * k ≤ m + 1 → Strided n p m → Strided n (2 * p) k
+even_strided {n} {p} {m} {k} more low high s =
     record {
       some = omega arith;
       few = omega (arith, s.few);
-      inside = omega (arith, s.inside, twice_times p (half m - 1), mul-le-mul_left {m = 2 * (half m - 1)} {n = m - 1} p (omega arith));
+      inside = omega (arith, s.inside, twice_times p (k - 1), mul-le-mul_left {m = 2 * (k - 1)} {n = m - 1} p (omega arith));
     }
-
--- where there is more than one entry, the stride is below the number of pads
-pub step_small : {n p m : ℕ} → 1 < m → Strided n p m → p < n
-step_small {n} {p} {m} more s = omega (arith, s.inside, le-mul_of_pos_right {m = m - 1} p (omega arith))
 
 -- the pad of an entry is in its row
 pub inside_row : {n p m : ℕ} → Strided n p m → (j : ℕ) → j < m → p * j < n
@@ -65,16 +61,6 @@ top_steady {b = b} r s = level_steady b (rw r.equal r.top.rising) s
 -- the difference of two pads of accepted rows is no large number
 pub near_difference : {a b : List ℤ} → AcceptedRows a b → (i j : ℕ) → nat_abs (pad a i -ℤ pad b j) ≤ 2000000
 near_difference {a} {b} r i j = omega (arith, abs_dif (pad a i) (pad b j), near a r.bottom i, near b r.top j)
-
--- the pads that round i reads are in the rows
-pub read_inside : {n p gap count : ℕ} → Readable n p gap count → (i : ℕ) → i < count → p * i + gap < n
-read_inside {n} {p} {gap} {count} r i h = omega (arith, r.inside, mul-le-mul_left {m = i} {n = count - 1} p (omega arith))
-
--- what is read for a trial at s
-pub readable : {n p m s : ℕ} → Strided n p m → s < m → Readable n p (p * s) (m - s)
-readable {n} {p} {m} {s} t h =
-    let e : m - s - 1 + s ≡ m - 1 = omega arith in
-    record { some = omega arith; few = omega (arith, t.few); inside = omega (arith, t.inside, rw e at (mul-add p (m - s - 1) s)) }
 
 -- every low end is p s further on than what is read for it, every high end as much less
 module _ (a b : List ℤ) (p s : ℕ) where
@@ -115,19 +101,49 @@ module _ (a b : List ℤ) (p s : ℕ) where
   high_from : (m : ℕ) → smallest highs (m - s - 1) -ℤ pos (p * s) ≡ (range_of m x y s).high
   high_from m = rw (smallest_further (high_end x y s) highs (neg_ℤ (pos (p * s))) high_is (m - s - 1)) (sym (high_is (smallest_at highs (m - s - 1))))
 
-  -- as a trial works them out from what is read
-  module _ (m : ℕ) (r : AcceptedRows a b) (t : Strided (length a) p m) (h : s < m) (g : OffsetRange) (e : g ≡ read_of a b p (p * s) (m - s)) where
-    pub low_fits : mag (g.low +ℤ pos (p * s)) < 2 ^ 31
-    low_fits =
-        let k = p * largest_at lows (m - s - 1) in
-        let d = pad a k -ℤ pad b (k + p * s) in
-        rw e (fits32 (d +ℤ pos (p * s)) (omega (arith, abs_sum d (pos (p * s)), near_difference r k (k + p * s), inside_row t s h, r.few)))
+-- as a trial works them out, from what is read and in an i32
+module _ (e : Entries) (s : ℕ) (h : s < e.len) (g : OffsetRange) (q : g ≡ read_of e.rows.now.bottom.now e.rows.now.top.now e.step (e.step * s) (e.len - s)) where
+  abbrev a : List ℤ
+  a = e.rows.now.bottom.now
 
-    pub high_fits : mag (g.high -ℤ pos (p * s)) < 2 ^ 31
-    high_fits =
-        let k = p * smallest_at highs (m - s - 1) in
-        let d = pad a (k + p * s) -ℤ pad b k in
-        rw e (fits32 (d -ℤ pos (p * s)) (omega (arith, abs_dif d (pos (p * s)), near_difference r (k + p * s) k, inside_row t s h, r.few)))
+  abbrev b : List ℤ
+  b = e.rows.now.top.now
 
-    pub range_read : ◌≡◌ {A = OffsetRange} (record { low = g.low +ℤ pos (p * s); high = g.high -ℤ pos (p * s) }) (range_of m x y s)
-    range_read = rw e (rw (low_from m, high_from m))
+  abbrev z : ℤ
+  z = pos (e.step * s)
+
+  shift : to_z w32 (e.step * s) ≡ z
+  shift = to_z_pos w32 (e.step * s) (omega (arith, inside_row e.strided s h, e.rows.now.accepted.few))
+
+  low_near : nat_abs g.low ≤ 2000000
+  low_near = let k = e.step * largest_at (low_read a b e.step (e.step * s)) (e.len - s - 1) in rw q (near_difference e.rows.now.accepted k (k + e.step * s))
+
+  high_near : nat_abs g.high ≤ 2000000
+  high_near = let k = e.step * smallest_at (high_read a b e.step (e.step * s)) (e.len - s - 1) in rw q (near_difference e.rows.now.accepted (k + e.step * s) k)
+
+  low_inside : mag (g.low +ℤ z) < 2 ^ 31
+  low_inside = fits32 (g.low +ℤ z) (omega (arith, abs_sum g.low z, low_near, inside_row e.strided s h, e.rows.now.accepted.few))
+
+  high_inside : mag (g.high -ℤ z) < 2 ^ 31
+  high_inside = fits32 (g.high -ℤ z) (omega (arith, abs_dif g.high z, high_near, inside_row e.strided s h, e.rows.now.accepted.few))
+
+  low_shown : to_z w32 (of_z w32 g.low) ≡ g.low
+  low_shown = back g.low (fits32 g.low (omega (arith, low_near)))
+
+  high_shown : to_z w32 (of_z w32 g.high) ≡ g.high
+  high_shown = back g.high (fits32 g.high (omega (arith, high_near)))
+
+  pub low_fits : SFits w32 (to_z w32 (of_z w32 g.low) +ℤ to_z w32 (e.step * s))
+  low_fits = rw (low_shown, shift) (record { sfits = low_inside })
+
+  pub high_fits : SFits w32 (to_z w32 (of_z w32 g.high) -ℤ to_z w32 (e.step * s))
+  high_fits = rw (high_shown, shift) (record { sfits = high_inside })
+
+  pub range_read : ◌≡◌ {A = OffsetRange}
+      (record {
+        low = to_z w32 (of_z w32 (to_z w32 (of_z w32 g.low) +ℤ to_z w32 (e.step * s)));
+        high = to_z w32 (of_z w32 (to_z w32 (of_z w32 g.high) -ℤ to_z w32 (e.step * s)));
+      })
+      (range_of e.len (x_of e) (y_of e) s)
+  range_read =
+      rw (low_shown, high_shown, shift, back (g.low +ℤ z) low_inside, back (g.high -ℤ z) high_inside) (rw q (rw (low_from a b e.step s e.len, high_from a b e.step s e.len)))

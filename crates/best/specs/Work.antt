@@ -22,10 +22,10 @@ level_entries a p j = lean_of a (p * j)
 
 -- those of some entries
 abbrev pub x_of : Entries → ℕ → ℤ
-x_of e = level_entries e.rows.bottom.now e.step
+x_of e = level_entries e.rows.now.bottom.now e.step
 
 abbrev pub y_of : Entries → ℕ → ℤ
-y_of e = level_entries e.rows.top.now e.step
+y_of e = level_entries e.rows.now.top.now e.step
 
 -- the two differences of columns that are read from pad p i on, `gap` pads apart
 abbrev pub low_read : (a b : List ℤ) (p gap : ℕ) → ℕ → ℤ

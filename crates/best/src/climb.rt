@@ -4,19 +4,19 @@ ghost use Rattle.best.specs.Halving.{levels};
 ghost use Rattle.best.specs.Work.{Halved, x_of, y_of};
 
 use crate::entries::Entries;
-use crate::level::{Level, set_rung};
+use crate::level::Level;
 
 // The best number of a level. Its rung is written in front of `ladder`, those below behind it.
-pub(crate) fn climb(entries: Entries<'_>, ladder: &mut [usize]) -> Level
-    requires { 2 * levels entries.len ≤ length ladder.old }
-    ensures { Halved entries.entry.len (x_of entries.entry) (y_of entries.entry) ladder.old ladder.new result }
+pub(crate) fn climb(entries: &Entries<'_>, ladder: &mut [usize]) -> Level
+    requires { 2 * levels entries.now.len ≤ length ladder.old }
+    ensures { Halved entries.now.len (x_of entries.now) (y_of entries.now) ladder.old ladder.new result }
 {
-    if entries.len <= 1 {
-        set_rung(ladder, 1, 0);
-        return Level::ONE_PAIR;
-    }
-    let under = climb(entries.even_half(), &mut ladder[2..]);
-    let level = under.over(entries);
-    set_rung(ladder, entries.len, level.best);
+    let (rung, below) = ladder.split_first_chunk_mut::<2>().unwrap();
+    let level = if 1 < entries.len {
+        climb(&entries.even_half(), below).over(entries)
+    } else {
+        Level::ONE_PAIR
+    };
+    *rung = [entries.len, level.best];
     level
 }

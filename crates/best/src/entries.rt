@@ -6,13 +6,14 @@ use crate::read::read;
 use jumper::range::OffsetRange;
 use jumper::rows::Rows;
 
-// Entry j of x is pad step j of the bottom row, less step j; that of y is the top row's.
+// Entry j of x is pad step j of the bottom row, less step j; that of y is the top row's. The rows are lent: the processor waits for what is written in four
+// parts and at once copied whole.
 #[derive(Clone, Copy)]
 pub(crate) struct Entries<'a> {
-    pub(crate) rows: Rows<'a>,
+    pub(crate) rows: &'a Rows<'a>,
     pub(crate) step: usize,
     pub(crate) len: usize,
-    ghost strided: { Strided (length rows.bottom.now) step len },
+    ghost strided: { Strided (length rows.now.bottom.now) step len },
 }
 
 impl<'a> Entries<'a> {
@@ -22,10 +23,10 @@ impl<'a> Entries<'a> {
     ghost use Rattle.best.specs.Work.{x_of, y_of};
 
     // All of x and y.
-    pub(crate) fn whole(rows: Rows<'a>) -> Self
+    pub(crate) fn whole(rows: &'a Rows<'a>) -> Self
         ensures of { result.rows ≡ rows.entry }
         ensures step { result.step ≡ 1 }
-        ensures len { result.len ≡ length rows.entry.bottom.now }
+        ensures len { result.len ≡ length rows.now.bottom.now }
     {
         Entries {
             rows,
@@ -35,23 +36,23 @@ impl<'a> Entries<'a> {
     }
 
     // Entries 0, 2, 4 ..
-    pub(crate) fn even_half(self) -> Self
-        requires { 1 < self.len }
-        ensures of { result.rows ≡ self.entry.rows }
-        ensures step { result.step ≡ 2 * self.entry.step }
-        ensures len { result.len ≡ half self.entry.len }
+    pub(crate) fn even_half(&self) -> Self
+        requires { 1 < self.now.len }
+        ensures of { result.rows ≡ self.now.rows }
+        ensures step { result.step ≡ 2 * self.now.step }
+        ensures len { result.len ≡ half self.now.len }
     {
         Entries {
             rows: self.rows,
             step: 2 * self.step,
-            len: (self.len + 1) / 2,
+            len: self.len.div_ceil(2),
         }
     }
 
     // The range at s. Each low end is step s further on than the difference that is read for it, and each high end as much less: this is added once.
-    pub(crate) fn range_at(self, s: usize) -> OffsetRange
-        requires { s < self.len }
-        ensures { result ≡ range_of self.entry.len (x_of self.entry) (y_of self.entry) s }
+    pub(crate) fn range_at(&self, s: usize) -> OffsetRange
+        requires { s < self.now.len }
+        ensures { result ≡ range_of self.now.len (x_of self.now) (y_of self.now) s }
     {
         let gap = self.step * s;
         let read = read(self.rows, self.step, gap, self.len - s);
@@ -62,10 +63,11 @@ impl<'a> Entries<'a> {
         }
     }
 
-    // How many differences are read for the range at s: two for each entry that has one s further on.
-    pub(crate) fn differences(self, s: usize) -> usize
-        requires { s < self.len }
-        ensures { result ≡ read_at self.entry.len s }
+    // How many differences are read for the range at s: two for each entry that has one s further on. A counter beside the loop's own would halve the width
+    // at which it runs.
+    pub(crate) fn differences(&self, s: usize) -> usize
+        requires { s < self.now.len }
+        ensures { result ≡ read_at self.now.len s }
     {
         2 * (self.len - s)
     }

@@ -1,5 +1,5 @@
-// One level of the halving: its best number from that of its even half, and its rung of the ladder.
-ghost use Rattle.std.specs.Prelude.{◌≡◌, IfSome, ◌∷◌, ◌+◌, ◌*◌, ◌≤◌, ◌<◌, length, drop};
+// One level of the halving: its best number from that of its even half.
+ghost use Rattle.std.specs.Prelude.{◌≡◌, IfSome, ◌+◌, ◌*◌, ◌≤◌, ◌<◌};
 ghost use Rattle.jumper.specs.Limits.{max_pairs};
 ghost use Rattle.jumper.specs.Span.{range_of};
 ghost use Rattle.best.specs.Halving.{levels, from_half};
@@ -25,16 +25,14 @@ impl Level {
 
     // The level of these entries over that of their even half, whose best is h: 2h - 1 if h is not 0, then 2h; the first whose range isn't empty is taken,
     // else 2h + 1 without a trial.
-    pub(crate) fn over(self, entries: Entries<'_>) -> Self
-        requires more { 1 < entries.len }
-        requires within { 4 * self.best ≤ entries.len + 1 }
+    pub(crate) fn over(self, entries: &Entries<'_>) -> Self
+        requires more { 1 < entries.now.len }
+        requires within { 4 * self.best ≤ entries.now.len + 1 }
         requires cheap { self.count ≤ 100000 }
-        ensures {
-            let m = entries.entry.len in
-            let x = x_of entries.entry in
-            let y = y_of entries.entry in
-            IsLevel m x y (from_half m x y self.best self.count) result
-        }
+        ensures { let m = entries.now.len in
+            let x = x_of entries.now in
+            let y = y_of entries.now in
+            IsLevel m x y (from_half m x y self.best self.count) result }
     {
         let even = 2 * self.best;
         let mut count = self.count;
@@ -57,10 +55,10 @@ impl Level {
     }
 
     // The range at its best: from its trial, or read now.
-    pub(crate) fn range(self, entries: Entries<'_>) -> OffsetRange
-        requires inside { self.best < entries.len }
-        requires kept { IfSome self.range (λ g. g ≡ range_of entries.len (x_of entries) (y_of entries) self.best) }
-        ensures { result ≡ range_of entries.entry.len (x_of entries.entry) (y_of entries.entry) self.best }
+    pub(crate) fn kept_or_read(self, entries: &Entries<'_>) -> OffsetRange
+        requires inside { self.best < entries.now.len }
+        requires kept { IfSome self.range (λ g. g ≡ range_of entries.now.len (x_of entries.now) (y_of entries.now) self.best) }
+        ensures { result ≡ range_of entries.now.len (x_of entries.now) (y_of entries.now) self.best }
     {
         match self.range {
             Some(range) => range,
@@ -69,25 +67,14 @@ impl Level {
     }
 }
 
-// A rung of the ladder: a level's size and its best number.
-pub(crate) fn set_rung(ladder: &mut [usize], size: usize, best: usize)
-    requires { 2 ≤ length ladder.old }
-    ensures { ladder.new ≡ size ∷ best ∷ drop 2 ladder.old }
-{
-    ladder[0] = size;
-    ladder[1] = best;
-}
-
 // How many levels there are from n pairs down to one.
+#[tactic(auto, using(crate::proofs::Levels::no_more_levels, crate::proofs::Levels::level_up, crate::proofs::Levels::few_levels))]
 pub(crate) fn count_levels(n: usize) -> usize
     requires { (1 ≤ n) × (n ≤ max_pairs) }
     ensures { result ≡ levels n }
 {
-    let mut m = n;
-    let mut count: usize = 1;
-    while 1 < m {
-        m = (m + 1) / 2;
-        count += 1;
+    if n <= 1 {
+        return 1;
     }
-    count
+    count_levels(n.div_ceil(2)) + 1
 }

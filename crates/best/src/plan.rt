@@ -42,19 +42,19 @@ pub fn best_of(a: &[i32], b: &[i32], ladder: &mut [usize]) -> Result<Planned, Re
     if ladder.len() < 2 * count_levels(a.len()) {
         return Err(Refusal::Buffer);
     }
-    Ok(halve(rows, ladder))
+    Ok(halve(&rows, ladder))
 }
 
 // The range of an untried answer is read at the end, outside the count.
-fn halve(rows: Rows<'_>, ladder: &mut [usize]) -> Planned
-    requires { 2 * levels (length rows.bottom.now) ≤ length ladder.old }
-    ensures { IsPlanned rows.entry.bottom.now rows.entry.top.now ladder.old ladder.new result }
+fn halve(rows: &Rows<'_>, ladder: &mut [usize]) -> Planned
+    requires { 2 * levels (length rows.now.bottom.now) ≤ length ladder.old }
+    ensures { IsPlanned rows.now.bottom.now rows.now.top.now ladder.old ladder.new result }
 {
     let entries = Entries::whole(rows);
-    let level = climb(entries, ladder);
+    let level = climb(&entries, ladder);
     Planned {
         separation: tracks_for(level.best),
-        range: level.range(entries),
+        range: level.kept_or_read(&entries),
         count: level.count,
     }
 }

@@ -7,18 +7,17 @@ use jumper::range::OffsetRange;
 use jumper::rows::Rows;
 
 // Bottom pad i less top pad j.
-fn difference(rows: Rows<'_>, i: usize, j: usize) -> i32
-    requires { (i < length rows.bottom.now) × (j < length rows.bottom.now) }
-    ensures { result ≡ pad rows.entry.bottom.now i -ℤ pad rows.entry.top.now j }
+fn difference(rows: &Rows<'_>, i: usize, j: usize) -> i32
+    requires { (i < length rows.now.bottom.now) × (j < length rows.now.bottom.now) }
+    ensures { result ≡ pad rows.now.bottom.now i -ℤ pad rows.now.top.now j }
 {
     rows.bottom[i] - rows.top[j]
 }
 
-// The ends of the differences of columns `gap` pads apart, at `count` pads from the first on, `step` pads from one to the next. A second counter of 64 bits
-// would halve the width at which the loop runs.
-fn ends(rows: Rows<'_>, step: usize, gap: usize, count: usize) -> OffsetRange
-    requires { Readable (length rows.bottom.now) step gap count }
-    ensures { result ≡ read_of rows.entry.bottom.now rows.entry.top.now step gap count }
+// The ends of the differences of columns `gap` pads apart, at `count` pads from the first on, `step` pads from one to the next.
+fn ends(rows: &Rows<'_>, step: usize, gap: usize, count: usize) -> OffsetRange
+    requires { Readable (length rows.now.bottom.now) step gap count }
+    ensures { result ≡ read_of rows.now.bottom.now rows.now.top.now step gap count }
 {
     let mut low = difference(rows, 0, gap);
     let mut high = difference(rows, gap, 0);
@@ -32,9 +31,9 @@ fn ends(rows: Rows<'_>, step: usize, gap: usize, count: usize) -> OffsetRange
 
 // About half of all differences are read at step 1 and a quarter at step 2. There the step is a number that the compiler knows: it lays out a loop for each,
 // and makes vector code of it.
-pub(crate) fn read(rows: Rows<'_>, step: usize, gap: usize, count: usize) -> OffsetRange
-    requires { Readable (length rows.bottom.now) step gap count }
-    ensures { result ≡ read_of rows.entry.bottom.now rows.entry.top.now step gap count }
+pub(crate) fn read(rows: &Rows<'_>, step: usize, gap: usize, count: usize) -> OffsetRange
+    requires { Readable (length rows.now.bottom.now) step gap count }
+    ensures { result ≡ read_of rows.now.bottom.now rows.now.top.now step gap count }
 {
     match step {
         1 => ends(rows, 1, gap, count),

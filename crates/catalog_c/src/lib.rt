@@ -27,7 +27,7 @@ pub extern "C" fn obrastyn_rows(a: &[i32], b: &[i32]) -> Numbers
     ensures answer { result ≡ checked_numbers (check_rows a.now b.now) }
     ensures means { InNumbers checked_numbers (RowCheck a.now b.now) result }
 {
-    jumper::rows::check_rows(a, b).numbers()
+    Numbers::from(jumper::rows::check_rows(a, b))
 }
 
 // Whether a legal wiring exists at separation s and offset d: refusals 1 to 7 and 10.
@@ -36,7 +36,7 @@ pub extern "C" fn obrastyn_fit(a: &[i32], b: &[i32], s: usize, d: i32) -> Number
     ensures answer { result ≡ checked_numbers (fit_of a.now b.now s d) }
     ensures means { InNumbers checked_numbers (FitAnswer a.now b.now s d) result }
 {
-    fit::misfit::fit(a, b, s, d).numbers()
+    Numbers::from(fit::misfit::fit(a, b, s, d))
 }
 
 // The least separation at offset d: refusals 1 to 5 and 7.
@@ -45,7 +45,7 @@ pub extern "C" fn obrastyn_least(a: &[i32], b: &[i32], d: i32) -> Numbers
     ensures answer { result ≡ least_numbers (least_answer a.now b.now d) }
     ensures means { InNumbers least_numbers (LeastAnswer a.now b.now d) result }
 {
-    fit::least::least_at(a, b, d).numbers()
+    Numbers::from(fit::least::least_at(a, b, d))
 }
 
 // The offsets that fit at separation s: refusals 1 to 6 and 11.
@@ -54,7 +54,7 @@ pub extern "C" fn obrastyn_range(a: &[i32], b: &[i32], s: usize) -> Numbers
     ensures answer { result ≡ offsets_numbers (offsets_answer a.now b.now s) }
     ensures means { InNumbers offsets_numbers (OffsetsAnswer a.now b.now s) result }
 {
-    fit::offsets::range_at(a, b, s).numbers()
+    Numbers::from(fit::offsets::range_at(a, b, s))
 }
 
 // The stretch at fault, by its place: refused or fitting, it has no pads.
@@ -73,7 +73,7 @@ pub extern "C" fn obrastyn_best(a: &[i32], b: &[i32], ladder: &mut [usize]) -> N
         (ladder_of a.now b.now) ladder.old }
     ensures means { InNumbers best_numbers (BestAnswer a.now b.now ladder.old ladder.new) result }
 {
-    best::plan::best_of(a, b, ladder).numbers()
+    Numbers::from(best::plan::best_of(a, b, ladder))
 }
 
 // Wire `wire` drawn into s + 1 places: refusals 1 to 10.
@@ -91,7 +91,7 @@ pub extern "C" fn obrastyn_draw_wire(
         (wire_drawn a.now b.now s d wire out.old) out.old }
     ensures means { InNumbers checked_numbers (DrawWireAnswer a.now b.now s d wire out.old out.new) result }
 {
-    route::drawing::draw_wire(a, b, s, d, wire, out).numbers()
+    Numbers::from(route::drawing::draw_wire(a, b, s, d, wire, out))
 }
 
 // All wires drawn, wire after wire, into n(s + 1) places: refusals 1 to 7, 9 and 10.
@@ -108,7 +108,7 @@ pub extern "C" fn obrastyn_draw_all(
         (all_drawn a.now b.now s d out.old) out.old }
     ensures means { InNumbers checked_numbers (DrawAllAnswer a.now b.now s d out.old out.new) result }
 {
-    route::drawing::draw_all(a, b, s, d, out).numbers()
+    Numbers::from(route::drawing::draw_all(a, b, s, d, out))
 }
 
 // A table from anyone, checked: refusals 1 to 7, 9 and 16.
@@ -117,7 +117,7 @@ pub extern "C" fn obrastyn_check(a: &[i32], b: &[i32], s: usize, d: i32, table: 
     ensures answer { result ≡ checked_numbers (route_checked a.now b.now s d table.now) }
     ensures means { InNumbers checked_numbers (RouteCheck a.now b.now s d table.now) result }
 {
-    route::checking::check_route(a, b, s, d, table).numbers()
+    Numbers::from(route::checking::check_route(a, b, s, d, table))
 }
 
 // Whether the kept record still serves the part in which only the pairs stay whose byte isn't 0: refusals 1 to 7 and 10.
@@ -132,7 +132,7 @@ pub extern "C" fn obrastyn_still_fits(
     ensures answer { result ≡ checked_numbers (still_of a.now b.now stays.now s d) }
     ensures means { InNumbers checked_numbers (StillAnswer a.now b.now stays.now s d) result }
 {
-    parts::still::still_fits(a, b, stays, s, d).numbers()
+    Numbers::from(parts::still::still_fits(a, b, stays, s, d))
 }
 
 // The route of such a part out of the old route's table: refusals 1 to 7, 9 and 16.
@@ -151,7 +151,7 @@ pub extern "C" fn obrastyn_part_route(
     ensures means { InNumbers checked_numbers
         (RoutedAnswer a.now b.now stays.now s d table.now out.old out.new) result }
 {
-    parts::routed::part_route(a, b, stays, s, d, table, out).numbers()
+    Numbers::from(parts::routed::part_route(a, b, stays, s, d, table, out))
 }
 
 // One record of an order form answered by value: LINE where its pads aren't in the pools, else what its wish is answered.

@@ -17,7 +17,7 @@ pub(crate) fn has_line(seen: u64, line: u8) -> bool
 pub(crate) fn with_line(seen: u64, line: u8) -> u64
     ensures { result ≡ with_line seen line }
 {
-    if MAX_LINES <= line as usize {
+    if MAX_LINES <= usize::from(line) {
         return seen;
     }
     seen | (1u64 << line)

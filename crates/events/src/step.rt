@@ -1,13 +1,12 @@
 // A whole line of text taken in (01's machine): what it does.
-ghost use Rattle.std.specs.Prelude.{◌≡◌, true, cond, List, ◌+◌, ◌≤◌, eqb, length, take, ℤ};
-ghost use Rattle.frame.specs.Frame.{bad, text_frame, said_of};
-ghost use Rattle.frame.specs.Puts.{puts};
+ghost use Rattle.std.specs.Prelude.{◌≡◌, Some, List, ◌+◌, ◌≤◌, length, MatchResult, ℤ};
+ghost use Rattle.frame.specs.Frame.{bad, text_frame};
 ghost use Rattle.jumper.specs.Limits.{max_pairs};
-ghost use Rattle.events.specs.Events.{refuses, passes, headed, is_next};
-ghost use Rattle.events.specs.Steps.{is_inside, seen_by, seen_with, with_line, machine_at, step_to, cut_off, step_of, Stepped, Ended};
-ghost use Rattle.events.specs.Parts.{outside_event, BottomPut, TopPut};
+ghost use Rattle.events.specs.Events.{opens, refuses, passes, headed, is_next};
+ghost use Rattle.events.specs.Steps.{line_in, has_line, seen_by, seen_with, with_line, machine_at, step_to, cut_off, step_of, Stepped, Ended};
+ghost use Rattle.events.specs.Parts.{missed, outside_event, framed, count_said, RowFilled, BottomPut, TopPut};
 
-use crate::machine::{INSIDE, Machine, READY, SKIPPING, is_inside, no_order};
+use crate::machine::{Machine, OpenLine, Phase};
 use crate::seen::{has_line, with_line};
 use frame::read::{Order, Said, read_text};
 use jumper::limits::{MAX_LINES, MAX_PAIRS};
@@ -17,7 +16,7 @@ use jumper::refusal::Refusal;
 const NO_LINE: u8 = 255;
 
 // What a frame did. The rows of the open line, or of the complete one, are the first columns of the lent rows.
-#[derive(Clone, Copy)]
+#[derive(Clone, Copy, Debug, PartialEq, Eq)]
 pub enum Did {
     Opened,
     Filled,
@@ -26,29 +25,20 @@ pub enum Did {
     Passed,
 }
 
-// The machine after a frame, and what the frame did; if `cut`, it was a header that cut off the line `former` first.
-#[derive(Clone, Copy)]
+// The machine after a frame, and what the frame did; if it was a header inside a line, the line that it cut off first.
+#[derive(Clone, Copy, Debug, PartialEq, Eq)]
 pub struct Step {
     pub machine: Machine,
-    pub cut: bool,
-    pub former: u8,
+    pub cut: Option<u8>,
     pub did: Did,
 }
 
-fn step_to(phase: u8, order: Order, bottom: usize, top: usize, seen: u64, did: Did) -> Step
-    ensures { result ≡ step_to (machine_at phase order bottom top seen) did }
+fn go(phase: Phase, seen: u64, did: Did) -> Step
+    ensures { result ≡ step_to (machine_at phase seen) did }
 {
-    let machine = Machine {
-        phase,
-        order,
-        bottom,
-        top,
-        seen,
-    };
     Step {
-        machine,
-        cut: false,
-        former: 0,
+        machine: Machine { phase, seen },
+        cut: None,
         did,
     }
 }
@@ -56,182 +46,168 @@ fn step_to(phase: u8, order: Order, bottom: usize, top: usize, seen: u64, did: D
 fn refuse(line: u8, r: Refusal, seen: u64) -> Step
     ensures { result ≡ step_of (refuses line r) seen }
 {
-    step_to(SKIPPING, no_order(), 0, 0, seen, Did::Refused(line, r))
+    go(Phase::Skipping, seen, Did::Refused(line, r))
 }
 
 fn pass(seen: u64) -> Step
     ensures { result ≡ step_of passes seen }
 {
-    step_to(SKIPPING, no_order(), 0, 0, seen, Did::Passed)
+    go(Phase::Skipping, seen, Did::Passed)
+}
+
+// Whether a good header opens its line, where these line numbers were seen before.
+#[tactic(auto, unfolding(crate::specs::Events::headed))]
+fn check_header(seen: u64, o: Order) -> Result<(), Refusal>
+    ensures { MatchResult result (λ _. headed (has_line seen) o ≡ opens o) (λ r. headed (has_line seen) o ≡ refuses o.line r) }
+{
+    if MAX_LINES <= usize::from(o.line) {
+        return Err(Refusal::Line);
+    }
+    if has_line(seen, o.line) {
+        return Err(Refusal::Twice);
+    }
+    if o.pairs == 0 {
+        return Err(Refusal::Empty);
+    }
+    if MAX_PAIRS < o.pairs {
+        return Err(Refusal::Long);
+    }
+    Ok(())
 }
 
 // A good header: refused, or its line is open.
-#[tactic(auto, unfolding(crate::specs::Events::headed))]
 fn head(m: Machine, o: Order) -> Step
     ensures { result ≡ step_of (headed (seen_by m) o) (with_line m.seen o.line) }
 {
-    let line = o.line;
-    let before = m.seen;
-    let seen = with_line(before, line);
-    if MAX_LINES <= line as usize {
-        return refuse(line, Refusal::Line, seen);
+    let seen = with_line(m.seen, o.line);
+    if let Err(r) = check_header(m.seen, o) {
+        return refuse(o.line, r, seen);
     }
-    if has_line(before, line) {
-        return refuse(line, Refusal::Twice, seen);
-    }
-    let pairs = o.pairs;
-    if pairs == 0 {
-        return refuse(line, Refusal::Empty, seen);
-    }
-    if MAX_PAIRS < pairs {
-        return refuse(line, Refusal::Long, seen);
-    }
-    step_to(INSIDE, o, 0, 0, seen, Did::Opened)
+    let here = OpenLine {
+        order: o,
+        bottom: 0,
+        top: 0,
+    };
+    go(Phase::Inside(here), seen, Did::Opened)
 }
 
 // A frame that isn't a header, outside of a line.
 fn miss(m: Machine, r: Refusal) -> Step
-    ensures { result ≡ step_of (cond (eqb m.phase 0) (refuses 255 r) passes) m.seen }
+    ensures { result ≡ step_of (missed m.phase r) m.seen }
 {
-    if m.phase == READY {
-        return refuse(NO_LINE, r, m.seen);
+    match m.phase {
+        Phase::Ready => refuse(NO_LINE, r, m.seen),
+        _ => pass(m.seen),
     }
-    pass(m.seen)
 }
 
-fn on_outside(m: Machine, said: Said) -> Step
-    ensures { result ≡ step_of (outside_event (eqb m.phase 0) (seen_by m) said) (seen_with m.seen said) }
+fn on_outside(m: Machine, said: Option<Said>) -> Step
+    ensures { result ≡ step_of (outside_event m.phase (seen_by m) said) (seen_with m.seen said) }
 {
     match said {
-        Said::Bad => miss(m, Refusal::Frame),
-        Said::Header(o) => head(m, o),
-        Said::Bottom(_, _) => miss(m, Refusal::Sequence),
-        Said::Top(_, _) => miss(m, Refusal::Sequence),
+        Some(Said::Header(o)) => head(m, o),
+        Some(_) => miss(m, Refusal::Sequence),
+        None => miss(m, Refusal::Frame),
     }
 }
 
-// The first k columns, into a row from place `to` on.
-fn put(columns: &[i32], k: usize, row: &mut [i32], to: usize)
-    requires { (k ≤ length columns.now) × (to + k ≤ length row.old) }
-    ensures { row.new ≡ puts row.old to (take k columns.now) }
-{
-    let mut j: usize = 0;
-    while j < k {
-        row[to + j] = columns[j];
-        j += 1;
-    }
-}
-
-// Whether k columns for a line are next in a row of the open line that has some already.
+// Columns for a line go into a row of the open line that has some already, if they are next in it: how many it has then.
 #[tactic(auto, unfolding(crate::specs::Events::is_next))]
-fn is_next(order: Order, have: usize, line: u8, k: usize) -> bool
-    requires { (have ≤ max_pairs) × (k ≤ 16) }
-    ensures { result ≡ is_next order have line k }
+fn fill(columns: &[i32], row: &mut [i32; MAX_PAIRS], order: Order, have: usize, line: u8) -> Option<usize>
+    requires { (have ≤ order.pairs) × (order.pairs ≤ max_pairs) × (length columns.now ≤ 16) }
+    ensures { RowFilled order have line columns.now row.old result row.new }
 {
-    if line == order.line {
-        return have + k <= order.pairs;
+    let n = have + columns.len();
+    if line != order.line || order.pairs < n {
+        return None;
     }
-    false
+    row[have..n].copy_from_slice(columns);
+    Some(n)
 }
 
-fn on_bottom(columns: &[i32; 16], a: &mut [i32], m: Machine, line: u8, k: usize) -> Step
-    requires { (is_inside m ≡ true) × (k ≤ 16) × (k ≤ length columns.now) × (length a.old ≡ max_pairs) }
-    ensures { (b : List ℤ) → length b ≡ m.top → BottomPut m columns.now a.old b line k result a.new }
+fn on_bottom(columns: &[i32], a: &mut [i32; MAX_PAIRS], m: Machine, here: OpenLine, line: u8) -> Step
+    requires { (line_in m.phase ≡ Some here) × (length columns.now ≤ 16) }
+    ensures { (b : List ℤ) → length b ≡ here.top → BottomPut here m.seen columns.now a.old b line result a.new }
 {
-    let order = m.order;
-    let bottom = m.bottom;
-    if is_next(order, bottom, line, k) {
-        put(columns, k, a, bottom);
-        return step_to(INSIDE, order, bottom + k, m.top, m.seen, Did::Filled);
-    }
-    refuse(order.line, Refusal::Sequence, m.seen)
+    let Some(bottom) = fill(columns, a, here.order, here.bottom, line) else {
+        return refuse(here.order.line, Refusal::Sequence, m.seen);
+    };
+    go(Phase::Inside(OpenLine { bottom, ..here }), m.seen, Did::Filled)
 }
 
-fn on_top(columns: &[i32; 16], b: &mut [i32], m: Machine, line: u8, k: usize) -> Step
-    requires { (is_inside m ≡ true) × (k ≤ 16) × (k ≤ length columns.now) × (length b.old ≡ max_pairs) }
-    ensures { (a : List ℤ) → length a ≡ m.bottom → TopPut m columns.now a b.old line k result b.new }
+fn on_top(columns: &[i32], b: &mut [i32; MAX_PAIRS], m: Machine, here: OpenLine, line: u8) -> Step
+    requires { (line_in m.phase ≡ Some here) × (length columns.now ≤ 16) }
+    ensures { (a : List ℤ) → length a ≡ here.bottom → TopPut here m.seen columns.now a b.old line result b.new }
 {
-    let order = m.order;
-    let top = m.top;
-    if m.bottom == order.pairs {
-        if is_next(order, top, line, k) {
-            put(columns, k, b, top);
-            if top + k == order.pairs {
-                return step_to(READY, no_order(), 0, 0, m.seen, Did::Completed(order));
-            }
-            return step_to(INSIDE, order, m.bottom, top + k, m.seen, Did::Filled);
-        }
+    let order = here.order;
+    if here.bottom != order.pairs {
         return refuse(order.line, Refusal::Sequence, m.seen);
     }
-    refuse(order.line, Refusal::Sequence, m.seen)
+    match fill(columns, b, order, here.top, line) {
+        Some(top) if top == order.pairs => go(Phase::Ready, m.seen, Did::Completed(order)),
+        Some(top) => go(Phase::Inside(OpenLine { top, ..here }), m.seen, Did::Filled),
+        None => refuse(order.line, Refusal::Sequence, m.seen),
+    }
 }
 
 // The line that a header cuts off is named first.
 fn cut_off(line: u8, t: Step) -> Step
     ensures { result ≡ cut_off line t }
 {
-    let mut r = t;
-    r.cut = true;
-    r.former = line;
-    r
-}
-
-fn on_inside(text: &[u8], a: &mut [i32], b: &mut [i32], m: Machine) -> Step
-    requires { (is_inside m ≡ true) × (length a.old ≡ max_pairs) × (length b.old ≡ max_pairs) }
-    ensures { Stepped m a.old b.old (text_frame text.now) result a.new b.new }
-{
-    let line = m.order.line;
-    let mut columns = [0i32; 16];
-    match read_text(text, &mut columns) {
-        Said::Bad => refuse(line, Refusal::Frame, m.seen),
-        Said::Header(o) => cut_off(line, head(m, o)),
-        Said::Bottom(l, k) => on_bottom(&columns, a, m, l, k),
-        Said::Top(l, k) => on_top(&columns, b, m, l, k),
+    Step {
+        cut: Some(line),
+        ..t
     }
 }
 
-// What a line says where its columns don't matter.
-fn said_of(text: &[u8]) -> Said
-    ensures { result ≡ said_of (text_frame text.now) }
+fn on_inside(
+    said: Option<Said>,
+    columns: &[i32; 16],
+    a: &mut [i32; MAX_PAIRS],
+    b: &mut [i32; MAX_PAIRS],
+    m: Machine,
+    here: OpenLine,
+) -> Step
+    requires { (line_in m.phase ≡ Some here) × (count_said said ≤ 16) }
+    ensures { Stepped m a.old b.old (framed said columns.now) result a.new b.new }
 {
-    let mut columns = [0i32; 16];
-    read_text(text, &mut columns)
-}
-
-// Over slices, whose lengths are told.
-fn on_lent(text: &[u8], a: &mut [i32], b: &mut [i32], m: Machine) -> Step
-    requires { (length a.old ≡ max_pairs) × (length b.old ≡ max_pairs) }
-    ensures { Stepped m a.old b.old (text_frame text.now) result a.new b.new }
-{
-    if is_inside(m) {
-        return on_inside(text, a, b, m);
+    let line = here.order.line;
+    match said {
+        Some(Said::Header(o)) => cut_off(line, head(m, o)),
+        Some(Said::Bottom(l, k)) => on_bottom(&columns[..k], a, m, here, l),
+        Some(Said::Top(l, k)) => on_top(&columns[..k], b, m, here, l),
+        None => refuse(line, Refusal::Frame, m.seen),
     }
-    on_outside(m, said_of(text))
 }
 
 // A whole line, by its text: all before its line feed.
 pub fn on_text(text: &[u8], a: &mut [i32; MAX_PAIRS], b: &mut [i32; MAX_PAIRS], m: Machine) -> Step
     ensures { Stepped m a.old b.old (text_frame text.now) result a.new b.new }
 {
-    on_lent(text, a, b, m)
+    let mut columns = [0i32; 16];
+    let said = read_text(text, &mut columns);
+    match m.line() {
+        Some(here) => on_inside(said, &columns, a, b, m, here),
+        None => on_outside(m, said),
+    }
 }
 
 // A last line that has no line feed: a bad frame.
 pub fn on_rest(m: Machine) -> Step
     ensures { (a b : List ℤ) → Stepped m a b bad result a b }
 {
-    if is_inside(m) {
-        return refuse(m.order.line, Refusal::Frame, m.seen);
+    match m.line() {
+        Some(here) => refuse(here.order.line, Refusal::Frame, m.seen),
+        None => miss(m, Refusal::Frame),
     }
-    miss(m, Refusal::Frame)
 }
 
 // The end of input.
 pub fn on_end(m: Machine) -> Step
     ensures { Ended m result }
 {
-    if is_inside(m) {
-        return refuse(m.order.line, Refusal::Sequence, m.seen);
+    match m.line() {
+        Some(here) => refuse(here.order.line, Refusal::Sequence, m.seen),
+        None => pass(m.seen),
     }
-    pass(m.seen)
 }

@@ -1,5 +1,6 @@
 -- The code's sums of columns are the ends that a pair sets, and its tests are the rule's; all of them fit an i32.
-use mathlib.Core.Path.{◌≡◌}
+use mathlib.Core.Path.{◌≡◌, sym, ◌∙◌}
+use mathlib.Core.Bool.{Bool}
 use mathlib.Core.List.{List}
 use Prim.Native.Nat.{ℕ, ◌+◌, ◌-◌, ◌≤◌, ◌<◌, ◌^◌}
 use native.Mathlib.Omega.{arith}
@@ -16,6 +17,7 @@ use Rattle.wiring.specs.Wiring.{pad}
 use Rattle.wiring.specs.Fit.{lean_of, low_end, high_end}
 use Rattle.jumper.specs.Limits.{AcceptedOffset}
 use Rattle.jumper.specs.Rows.{AcceptedRow, AcceptedRows}
+use Rattle.jumper.specs.declared.asked.Question.{Question}
 use Rattle.jumper.proofs.Accepted.{near, near_offset}
 use Rattle.fit.specs.Misfit.{too_right, too_left}
 use Rattle.fit.specs.Offsets.{low_gap, high_gap, gaps_of}
@@ -74,8 +76,20 @@ module _ {a b : List ℤ} (r : AcceptedRows a b) (s i j : ℕ) (few : s < length
     pub fit_top_on : mag ((pad b j +ℤ d) +ℤ pos s) < 2 ^ 31
     fit_top_on = fits32 ((pad b j +ℤ d) +ℤ pos s) (omega (arith, abs_sum (pad b j +ℤ d) (pos s), abs_sum (pad b j) d, near b r.top j, near_offset d o, small))
 
--- the tests as they are made, on machine numbers
-module _ {a b : List ℤ} (r : AcceptedRows a b) (s i : ℕ) (inside : i + s < length a) (d : ℤ) (o : AcceptedOffset d) where
+-- the tests as the code makes them of a question, on machine numbers
+module _ (q : Question) (s i : ℕ) (inside : i + s < length q.rows.bottom.now) where
+  abbrev a : List ℤ
+  a = q.rows.bottom.now
+
+  abbrev b : List ℤ
+  b = q.rows.top.now
+
+  abbrev d : ℤ
+  d = q.offset
+
+  abbrev r : AcceptedRows a b
+  r = q.rows.accepted
+
   few : s < length a
   few = omega (arith, inside)
 
@@ -83,29 +97,30 @@ module _ {a b : List ℤ} (r : AcceptedRows a b) (s i : ℕ) (inside : i + s < l
   of_pad {c} k j = back (pad c j) (fits32 (pad c j) (omega (arith, near c k j)))
 
   of_offset : to_z w32 (of_z w32 d) ≡ d
-  of_offset = back d (fits32 d (omega (arith, near_offset d o)))
+  of_offset = back d (fits32 d (omega (arith, near_offset d q.shift)))
 
   of_few : to_z w32 s ≡ pos s
   of_few = to_z_pos w32 s (omega (arith, r.few))
 
-  pub right_tested : lt_z (to_z w32 (of_z w32 (pad a (i + s)))) (to_z w32 (of_z w32 (to_z w32 (of_z w32 (to_z w32 (of_z w32 (pad b i)) +ℤ to_z w32 (of_z w32 d))) +ℤ to_z w32 s))) ≡ too_right (lean_of a) (lean_of b) s d i
-  right_tested =
-      rw (of_pad r.bottom (i + s), of_pad r.top i, of_offset, back (pad b i +ℤ d) (fit_top r s i i few d o), of_few, back ((pad b i +ℤ d) +ℤ pos s) (fit_top_on r s i i few d o))
-      (right_test a b s i d)
-
-  pub left_tested : lt_z (to_z w32 (of_z w32 (to_z w32 (of_z w32 (pad b (i + s))) +ℤ to_z w32 (of_z w32 d)))) (to_z w32 (of_z w32 (to_z w32 (of_z w32 (pad a i)) +ℤ to_z w32 s))) ≡ too_left (lean_of a) (lean_of b) s d i
-  left_tested =
-      rw (of_pad r.top (i + s), of_pad r.bottom i, of_offset, back (pad b (i + s) +ℤ d) (fit_top r s i (i + s) few d o), of_few, back (pad a i +ℤ pos s) (fit_bottom r s i i few))
-      (left_test a b s i d)
-
   pub right_fits : FitsSigned w32 (to_z w32 (of_z w32 (to_z w32 (of_z w32 (pad b i)) +ℤ to_z w32 (of_z w32 d))) +ℤ to_z w32 s)
-  right_fits = rw (of_pad r.top i, of_offset, back (pad b i +ℤ d) (fit_top r s i i few d o), of_few) (record { sfits = fit_top_on r s i i few d o })
+  right_fits = rw (of_pad r.top i, of_offset, back (pad b i +ℤ d) (fit_top r s i i few d q.shift), of_few) (record { sfits = fit_top_on r s i i few d q.shift })
 
   pub left_top_fits : FitsSigned w32 (to_z w32 (of_z w32 (pad b (i + s))) +ℤ to_z w32 (of_z w32 d))
-  left_top_fits = rw (of_pad r.top (i + s), of_offset) (record { sfits = fit_top r s i (i + s) few d o })
+  left_top_fits = rw (of_pad r.top (i + s), of_offset) (record { sfits = fit_top r s i (i + s) few d q.shift })
 
   pub left_bottom_fits : FitsSigned w32 (to_z w32 (of_z w32 (pad a i)) +ℤ to_z w32 s)
   left_bottom_fits = rw (of_pad r.bottom i, of_few) (record { sfits = fit_bottom r s i i few })
+
+  module _ (t : Bool) where
+    pub right_tested : lt_z (to_z w32 (of_z w32 (pad a (i + s)))) (to_z w32 (of_z w32 (to_z w32 (of_z w32 (to_z w32 (of_z w32 (pad b i)) +ℤ to_z w32 (of_z w32 d))) +ℤ to_z w32 s))) ≡ t → too_right (lean_of a) (lean_of b) s d i ≡ t
+    right_tested e =
+        sym (right_test a b s i d)
+        ∙ rw (of_pad r.bottom (i + s), of_pad r.top i, of_offset, back (pad b i +ℤ d) (fit_top r s i i few d q.shift), of_few, back ((pad b i +ℤ d) +ℤ pos s) (fit_top_on r s i i few d q.shift)) at e
+
+    pub left_tested : lt_z (to_z w32 (of_z w32 (to_z w32 (of_z w32 (pad b (i + s))) +ℤ to_z w32 (of_z w32 d)))) (to_z w32 (of_z w32 (to_z w32 (of_z w32 (pad a i)) +ℤ to_z w32 s))) ≡ t → too_left (lean_of a) (lean_of b) s d i ≡ t
+    left_tested e =
+        sym (left_test a b s i d)
+        ∙ rw (of_pad r.top (i + s), of_pad r.bottom i, of_offset, back (pad b (i + s) +ℤ d) (fit_top r s i (i + s) few d q.shift), of_few, back (pad a i +ℤ pos s) (fit_bottom r s i i few)) at e
 
 module _ {a b : List ℤ} (r : AcceptedRows a b) (s : ℕ) (few : s < length a) where
   pub fit_low_gap : mag ((gaps_of a b s).low +ℤ pos s) < 2 ^ 31
@@ -113,6 +128,3 @@ module _ {a b : List ℤ} (r : AcceptedRows a b) (s : ℕ) (few : s < length a) 
 
   pub fit_high_gap : mag ((gaps_of a b s).high -ℤ pos s) < 2 ^ 31
   fit_high_gap = let i = smallest_at (high_gap a b s) (length a - s - 1) in fit_high r s (i + s) i few
-
-pub fit_span : {a : List ℤ} → AcceptedRow a → (i j : ℕ) → mag (pad a i -ℤ pad a j) < 2 ^ 31
-fit_span {a} r i j = fits32 (pad a i -ℤ pad a j) (omega (arith, abs_dif (pad a i) (pad a j), near a r i, near a r j))

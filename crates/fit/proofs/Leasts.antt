@@ -27,7 +27,7 @@ use Rattle.jumper.specs.declared.refusal.Refusal.{Refusal}
 use Rattle.jumper.proofs.Accepted.{numbered, refused_not}
 use Rattle.jumper.proofs.Checks.{shift_accepted}
 use Rattle.fit.specs.Misfit.{too_right, too_left, misfit_from, misfit_of}
-use Rattle.fit.specs.Least.{least_numbers, breaks_at, least_of, with_witness, LeastAnswer}
+use Rattle.fit.specs.Least.{pair_of, least_numbers, breaks_at, least_of, with_witness, LeastAnswer}
 use Rattle.fit.specs.declared.misfit.Misfit.{Misfit}
 use Rattle.fit.specs.declared.least.Least.{Least}
 use Rattle.jumper.proofs.Wired.{wiring_exactly, wired_first, tracks_given}
@@ -161,18 +161,13 @@ module _ (a b : List ℤ) (d : ℤ) where
         witness = λ z. absurd (numbered r z);
       }
 
--- THE SEARCH: the pairs before `from` are free at s; and where s isn't 0, the witness is the misfit just below s, and the pairs are looked at from its own on
-pub record Seeking (a b : List ℤ) (d : ℤ) (s from : ℕ) (witness : Option Misfit) : Type 0 where
+-- THE SEARCH: the pairs before the witness's are free at s; and where s isn't 0, the witness is the misfit just below s
+pub record Seeking (a b : List ℤ) (d : ℤ) (s : ℕ) (witness : Option Misfit) : Type 0 where
   pub below : s ≤ length a
-  pub start : from ≤ length a
-  pub here : misfit_of a b s d ≡ misfit_from (lean_of a) (lean_of b) s d from (length a - s - from)
+  pub start : pair_of witness ≤ length a
+  pub here : misfit_of a b s d ≡ misfit_from (lean_of a) (lean_of b) s d (pair_of witness) (length a - s - pair_of witness)
   pub first : s ≡ 0 → witness ≡ None
   pub last : 0 < s → (m : Misfit) × ((misfit_of a b (s - 1) d ≡ Some m) × (witness ≡ Some m))
-
-pub seek_start : (a b : List ℤ) (d : ℤ) → Seeking a b d 0 0 None
-seek_start a b d =
-    let e : length a - 0 - 0 ≡ length a - 0 = omega arith in
-    record { below = omega arith; start = omega arith; here = rw e; first = λ h. refl; last = λ h. absurd (omega arith) }
 
 -- free pairs are passed over
 skip : (x y : ℕ → ℤ) (s : ℕ) (d : ℤ) (n j : ℕ) → ((k : ℕ) → k < j → (k + s < n) × Free x y s d k) → misfit_from x y s d 0 (n - s) ≡ misfit_from x y s d j (n - s - j)
@@ -182,18 +177,15 @@ skip x y s d n (suc j) f =
     let e = free_here x y s d n j g.0 (rw (lt_false (high_end x y s j) d g.1.high, lt_false d (low_end x y s j) g.1.low)) in
     skip x y s d n j (λ k h. f k (omega arith)) ∙ rw (add-one j) at e
 
-module _ (a b : List ℤ) (d : ℤ) (k : AcceptedShift a b d) (s from : ℕ) (w : Option Misfit) (c : Seeking a b d s from w) where
+module _ (a b : List ℤ) (d : ℤ) (k : AcceptedShift a b d) (s : ℕ) (w : Option Misfit) (c : Seeking a b d s w) where
   sx : Steady (length a) (lean_of a)
   sx = lean_steady k.rows.bottom.rising
 
   sy : Steady (length a) (lean_of b)
   sy = rw k.rows.equal (lean_steady k.rows.top.rising)
 
-  pub seek_asked : Asked a b s d
-  seek_asked = record { rows = k.rows; tracks = omega (arith, c.below, k.rows.few); offset = k.offset }
-
-  pub seek_next : (m : Misfit) → misfit_from (lean_of a) (lean_of b) s d from (length a - s - from) ≡ Some m
-      → (s < length a) × Seeking a b d (s + 1) m.pair (Some m)
+  pub seek_next : (m : Misfit) → misfit_from (lean_of a) (lean_of b) s d (pair_of w) (length a - s - pair_of w) ≡ Some m
+      → (s < length a) × Seeking a b d (s + 1) (Some m)
   seek_next m e =
       let f : misfit_of a b s d ≡ Some m = c.here ∙ e in
       let l = broken_inside (at_broken a b s d m f) in
@@ -212,7 +204,7 @@ module _ (a b : List ℤ) (d : ℤ) (k : AcceptedShift a b d) (s from : ℕ) (w 
       freed : (p : ℕ) → p < m.pair → Free (lean_of a) (lean_of b) s d p → p + suc s < length a → Free (lean_of a) (lean_of b) (s + 1) d p
       freed p h f l = let n = ends_next sx sy s p l in rw (add-one s) (record { low = omega (arithℤ, f.low, n.0); high = omega (arithℤ, f.high, n.1) })
 
-  pub seek_done : misfit_from (lean_of a) (lean_of b) s d from (length a - s - from) ≡ None → s ≡ least_of (lean_of a) (lean_of b) d (length a)
+  pub seek_done : misfit_from (lean_of a) (lean_of b) s d (pair_of w) (length a - s - pair_of w) ≡ None → s ≡ least_of (lean_of a) (lean_of b) d (length a)
   seek_done e =
       let f : misfit_of a b s d ≡ None = c.here ∙ e in
       least_once
@@ -222,7 +214,7 @@ module _ (a b : List ℤ) (d : ℤ) (k : AcceptedShift a b d) (s from : ℕ) (w 
       below : (t : ℕ) → t < s → Fits (length a) t (lean_of a) (lean_of b) d → (m : Misfit) → misfit_of a b (s - 1) d ≡ Some m → ⊥
       below t h g m e = broken_breaks (at_broken a b (s - 1) d m e) (fits_above sx sy (s - 1 - t) t (s - 1) (omega arith) g)
 
-  pub seek_found : (t : ℕ) → t ≡ min (tracks_for s) max_tracks → misfit_from (lean_of a) (lean_of b) s d from (length a - s - from) ≡ None
+  pub seek_found : (t : ℕ) → t ≡ min (tracks_for s) max_tracks → misfit_from (lean_of a) (lean_of b) s d (pair_of w) (length a - s - pair_of w) ≡ None
       → LeastAnswer a b d (Ok (record { separation = t; witness = w }))
   seek_found t q e = go (dec_lt 0 s)
     where

@@ -4,15 +4,19 @@ use mathlib.Core.Path.{◌≡◌, refl, sym, ◌∙◌}
 use mathlib.Core.Bool.{Bool, true, false}
 use mathlib.Core.List.{List}
 use mathlib.Core.Logic.{◌↔◌}
-use Prim.Native.Nat.{◌+◌, ℕ, ◌-◌, ◌<◌, ◌≤◌}
+use Prim.Native.Nat.{◌+◌, ℕ, ◌-◌, ◌<◌, ◌≤◌, ◌^◌}
 use native.Mathlib.Decide.{dec_lt}
 use native.Mathlib.Nat.{add-zero}
 use native.Mathlib.Omega.{arith}
 use borrow.Author.Tests.{lt-ltb, le-ltb}
 use lib.ListN.{length}
 use lib.IntN.{ℤ, pos, neg_ℤ, ◌+ℤ◌, ◌-ℤ◌}
+use lib.Signed.{mag}
+use Rattle.std.proofs.Common.{FitsSigned, to_z, of_z, w32}
+use Rattle.std.proofs.lemmas.Int.{to_z-of_z, to_z_pos}
 use Rattle.whole.specs.Pick.{largest_at, smallest_at}
 use Rattle.whole.proofs.Arith.{arithℤ, sum, dif}
+use Rattle.whole.proofs.Machine.{back}
 use Rattle.whole.proofs.Order.{false_lt, untrue}
 use Rattle.whole.proofs.Extremes.{largest_law, smallest_law, largest_further, smallest_further}
 use Rattle.wiring.specs.Wiring.{HasWiring}
@@ -22,13 +26,15 @@ use Rattle.wiring.proofs.Rule.{fits_past}
 use Rattle.jumper.specs.Asked.{check_tracks, AcceptedTracks}
 use Rattle.jumper.specs.Range.{whole_range, is_empty}
 use Rattle.jumper.specs.Span.{lowest_at, highest_at, range_of}
+use Rattle.jumper.specs.declared.range.OffsetRange.{OffsetRange}
+use Rattle.jumper.specs.declared.rows.Rows.{Rows}
 use Rattle.jumper.specs.declared.refusal.Refusal.{Refusal}
 use Rattle.jumper.specs.declared.refusal.Refusal.TheVariants.{NoOffset}
 use Rattle.jumper.proofs.Accepted.{numbered, refused_not}
 use Rattle.jumper.proofs.Checks.{tracks_accepted, early_tracks}
 use Rattle.jumper.proofs.Spans.{range_exactly, none_fits}
 use Rattle.fit.specs.Offsets.{gap, low_gap, high_gap, gaps_of, range_found, FirstLow, FirstHigh, OffsetsAnswer}
-use Rattle.fit.proofs.Ends.{low_is, high_is}
+use Rattle.fit.proofs.Ends.{low_is, high_is, fit_difference}
 use Rattle.jumper.proofs.Wired.{wiring_exactly}
 
 -- `range_found` by the code's tests
@@ -182,3 +188,37 @@ module _ (a b : List ℤ) (s : ℕ) where
         (λ k h g. before k h (rw (add-zero k) g))
         (λ k h g. rw (add-zero i) at (found k (omega arith) (rw (add-zero k) g)))
         ∙ sym high_at
+
+-- the range as the code has it, of which it takes off the s again
+module _ (rows : Rows) (s : ℕ) (inside : s < length rows.bottom.now) (v : OffsetRange) (e : v ≡ range_of (length rows.bottom.now) (lean_of rows.bottom.now) (lean_of rows.top.now) s) where
+  abbrev g : OffsetRange
+  g = gaps_of rows.bottom.now rows.top.now s
+
+  few : to_z w32 s ≡ pos s
+  few = to_z_pos w32 s (omega (arith, rows.accepted.few))
+
+  module _ (f : FitsSigned w32 v.low) where
+    low_is_gap : to_z w32 (of_z w32 v.low) -ℤ to_z w32 s ≡ g.low
+    low_is_gap = rw (to_z-of_z w32 v.low f, few, e, gap_of_low rows.bottom.now rows.top.now s)
+
+    low_within : mag g.low < 2 ^ 31
+    low_within = let i = largest_at (low_gap rows.bottom.now rows.top.now s) (length rows.bottom.now - s - 1) in fit_difference rows.accepted s i (i + s) inside
+
+    pub low_fits : FitsSigned w32 (to_z w32 (of_z w32 v.low) -ℤ to_z w32 s)
+    low_fits = rw low_is_gap (record { sfits = low_within })
+
+    pub low_back : to_z w32 (of_z w32 (to_z w32 (of_z w32 v.low) -ℤ to_z w32 s)) ≡ g.low
+    low_back = rw low_is_gap (back g.low low_within)
+
+  module _ (f : FitsSigned w32 v.high) where
+    high_is_gap : to_z w32 (of_z w32 v.high) +ℤ to_z w32 s ≡ g.high
+    high_is_gap = rw (to_z-of_z w32 v.high f, few, e, gap_of_high rows.bottom.now rows.top.now s)
+
+    high_within : mag g.high < 2 ^ 31
+    high_within = let i = smallest_at (high_gap rows.bottom.now rows.top.now s) (length rows.bottom.now - s - 1) in fit_difference rows.accepted s (i + s) i inside
+
+    pub high_fits : FitsSigned w32 (to_z w32 (of_z w32 v.high) +ℤ to_z w32 s)
+    high_fits = rw high_is_gap (record { sfits = high_within })
+
+    pub high_back : to_z w32 (of_z w32 (to_z w32 (of_z w32 v.high) +ℤ to_z w32 s)) ≡ g.high
+    high_back = rw high_is_gap (back g.high high_within)

@@ -44,11 +44,9 @@ fn seek_least(q: Question<'_>) -> Least
     ensures { LeastAnswer q.entry.rows.bottom.now q.entry.rows.top.now q.entry.offset (Ok result) }
 {
     let mut s: usize = 0;
-    let mut from: usize = 0;
     let mut witness: Option<Misfit> = None;
-    while let Some(m) = misfit_from(q, s, from) {
+    while let Some(m) = misfit_from(q, s, witness.map_or(0, |m| m.pair)) {
         s += 1;
-        from = m.pair;
         witness = Some(m);
     }
     Least {

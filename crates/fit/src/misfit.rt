@@ -46,6 +46,7 @@ pub(crate) fn misfit_from(q: Question<'_>, s: usize, from: usize) -> Option<Misf
 }
 
 // The least misfit: none where the offset is in the range of the separation, which is quick to read; else it is sought.
+#[inline]
 pub(crate) fn first_misfit(q: Question<'_>) -> Option<Misfit>
     ensures { result ≡ misfit_of q.entry.rows.bottom.now q.entry.rows.top.now (rule_at q.entry.separation) q.entry.offset }
 {

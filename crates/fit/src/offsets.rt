@@ -16,7 +16,8 @@ pub fn range_at(a: &[i32], b: &[i32], s: usize) -> Result<OffsetRange, Refusal>
     ensures { OffsetsAnswer a.now b.now s result }
 {
     check_tracks(a, b, s)?;
-    range_found(Rows { bottom: a, top: b }, rule_at(s))
+    let r = rule_at(s);
+    range_found(Rows { bottom: a, top: b }, r)
 }
 
 // How far bottom pad i stands right of top pad j. The ends that pair i sets are such gaps, s further on: the low end its gap to top pad i + s, and the high end

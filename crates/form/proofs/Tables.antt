@@ -1,8 +1,8 @@
 -- The table of a form: what the calls over it promise, from the answers to its records; and the laws of answering. Sections:
---     what each way out of the two calls says
+--     the records that a loop over the table has answered
 --     answering twice, in any order, and all: `again`, `swap`, `all_in_any_order`
 --     a line's answer depends on its own record and pads alone: `own_answer`, `own_alone`, `own_among_all`
-use mathlib.Core.Path.{◌≡◌, refl, sym, ap, ◌∙◌}
+use mathlib.Core.Path.{◌≡◌, refl, sym, ◌∙◌}
 use mathlib.Core.Bool.{Bool, true, false, cond}
 use mathlib.Core.List.{List, [], ◌∷◌, map}
 use Prim.Native.Nat.{ℕ, zero, suc, ◌+◌, ◌≤◌, ◌<◌}
@@ -10,133 +10,48 @@ use native.Mathlib.Decide.{dec_lt, ℕ_discrete}
 use native.Mathlib.Omega.{arith}
 use borrow.Author.Tests.{eq-eqb, ne_eqb, lt-ltb, le-ltb, le-leb, lt-leb}
 use lib.Dec.{eqb, leb}
-use lib.ListN.{length, get_or, set, length-set, length-map}
+use lib.ListN.{length, set, length-set, length-map}
 use lib.Seq.{get_or-set_same, get_or-set_other, ext_get_or}
 use lib.IntN.{ℤ}
+use borrow.Author.Count.{below_more}
+use Rattle.std.proofs.lemmas.List.{get_or-map}
 use Rattle.jumper.specs.Limits.{max_lines}
 use Rattle.form.specs.Line.{answer_of, answered_of, Inside, LineAnswer, SameLine}
-use Rattle.form.specs.Table.{no_record, record_at, too_long, line_says, line_done, all_says, answered_each, all_done, in_order, among, OneAnswered, AllAnswered, RowsAnswered}
+use Rattle.form.specs.Table.{no_record, record_at, too_long, line_says, line_done, all_says, answered_each, all_done, in_order, among, EachAnswered}
 use Rattle.form.specs.declared.line.Order.{Order}
 use Rattle.form.specs.declared.line.Line.{Line}
 use Rattle.form.proofs.Lines.{dec_inside, outside_answer, inside_answer}
 
--- ---- what each way out says
-module _ (t : List Line) (k : ℕ) (p q : List ℤ) where
-  one_refused : 12 ≡ line_says t k → t ≡ line_done t k p q → (k < length t → length t ≤ max_lines → ⊥) → OneAnswered t k p q 12 t
-  one_refused e f none =
+-- ---- what the loop has answered
+-- the first i records are answered as `answered` promises, the others are as they were
+pub record Swept (t : List Line) (p q : List ℤ) (i : ℕ) (u : List Line) : Type 0 where
+  pub same : length u ≡ length t
+  pub done : (k : ℕ) → k < i → LineAnswer (record_at t k) p q (record_at u k)
+  pub left : (k : ℕ) → i ≤ k → record_at u k ≡ record_at t k
+
+module _ {t : List Line} {p q : List ℤ} {i : ℕ} {u : List Line} (s : Swept t p q i u) where
+  pub swept_more : (r : Line) → i < length u → LineAnswer (record_at u i) p q r → Swept t p q (i + 1) (set u i r)
+  swept_more r h a =
       record {
-        answer = e;
-        table = f;
-        accepts = ((λ z. absurd (omega arith)), (λ z. absurd (none z.0 z.1)));
-        refused = λ z. (refl, refl);
-        means = λ z. absurd (omega arith);
-        others = λ j z. refl;
-        size = refl;
+        same = length-set u i r ∙ s.same;
+        done = below_more (λ k. LineAnswer (record_at t k) p q (record_at (set u i r) k)) i before here;
+        left = λ k g. get_or-set_other u i k r no_record (λ e. omega arith) ∙ s.left k (omega arith);
       }
-
-  pub one_long : max_lines < length t → OneAnswered t k p q 12 t
-  one_long h = let e = lt-ltb max_lines (length t) h in one_refused (rw e) (rw e) (λ g l. omega arith)
-
-  pub one_past : length t ≤ max_lines → length t ≤ k → OneAnswered t k p q 12 t
-  one_past h g =
-      let e = le-ltb max_lines (length t) h in
-      let f = le-leb (length t) k g in
-      one_refused (rw (e, f)) (rw (e, f)) (λ l m. omega arith)
-
-  pub one_good : (r : Line) → length t ≤ max_lines → k < length t → LineAnswer (record_at t k) p q r → OneAnswered t k p q 0 (set t k r)
-  one_good r h g a =
-      let e = le-ltb max_lines (length t) h in
-      let f = lt-leb (length t) k g in
-      record {
-        answer = rw (e, f);
-        table = rw (e, f) (ap (set t k) a.answer);
-        accepts = ((λ z. (g, h)), (λ z. refl));
-        refused = λ z. absurd (z refl);
-        means = λ z. rw (get_or-set_same t k r no_record g) a;
-        others = λ j z. get_or-set_other t k j r no_record z;
-        size = length-set t k r;
-      }
-
--- the table with f put to its first i records
-abbrev pub upto : (Line → Line) → ℕ → List Line → List Line
-upto f zero t = t
-upto f (suc i) [] = []
-upto f (suc i) (l ∷ t) = f l ∷ upto f i t
-
-module _ (f : Line → Line) where
-  pub upto_length : (i : ℕ) (t : List Line) → length (upto f i t) ≡ length t
-  upto_length zero t = refl
-  upto_length (suc i) [] = refl
-  upto_length (suc i) (l ∷ t) = ap suc (upto_length i t)
-
-  -- record i is still as it was
-  pub upto_here : (i : ℕ) (t : List Line) (d : Line) → get_or (upto f i t) i d ≡ get_or t i d
-  upto_here zero t d = refl
-  upto_here (suc i) [] d = refl
-  upto_here (suc i) (l ∷ t) d = upto_here i t d
-
-  pub upto_set : (i : ℕ) (t : List Line) (d : Line) → i < length t → set (upto f i t) i (f (get_or (upto f i t) i d)) ≡ upto f (suc i) t
-  upto_set i [] d h = absurd (omega arith)
-  upto_set zero (l ∷ t) d h = refl
-  upto_set (suc i) (l ∷ t) d h = ap (λ (u : List Line). f l ∷ u) (upto_set i t d (omega arith))
-
-  pub upto_all : (t : List Line) → upto f (length t) t ≡ map f t
-  upto_all [] = refl
-  upto_all (l ∷ t) = ap (λ (u : List Line). f l ∷ u) (upto_all t)
-
-  pub map_at : (t : List Line) (k : ℕ) (d : Line) → k < length t → get_or (map f t) k d ≡ f (get_or t k d)
-  map_at [] k d h = absurd (omega arith)
-  map_at (l ∷ t) zero d h = refl
-  map_at (l ∷ t) (suc k) d h = map_at t k d (omega arith)
-
--- the first i records were answered as `answered` promises
-abbrev pub Done : List Line → (p q : List ℤ) → ℕ → Type 0
-Done t p q i = (j : ℕ) → j < i → LineAnswer (record_at t j) p q (answered_of (record_at t j) p q)
-
-module _ (t : List Line) (p q : List ℤ) where
-  pub none_done : Done t p q 0
-  none_done j h = absurd (omega arith)
-
-  pub more_done : (i : ℕ) (r : Line) → Done t p q i → LineAnswer (record_at (upto (λ l. answered_of l p q) i t) i) p q r → Done t p q (i + 1)
-  more_done i r d a j h = go (ℕ_discrete j i)
     where
-      here : LineAnswer (record_at t i) p q (answered_of (record_at t i) p q)
-      here = rw (a.answer, upto_here (λ l. answered_of l p q) i t no_record) at a
+      before : (k : ℕ) → k < i → LineAnswer (record_at t k) p q (record_at (set u i r) k)
+      before k g = rw (get_or-set_other u i k r no_record (λ e. omega arith)) (s.done k g)
 
-      go : Dec (j ≡ i) → LineAnswer (record_at t j) p q (answered_of (record_at t j) p q)
-      go (yes e) = rw e here
-      go (no e) = d j (omega arith)
+      here : LineAnswer (record_at t i) p q (record_at (set u i r) i)
+      here = rw (get_or-set_same u i r no_record h) (rw (s.left i (omega arith)) at a)
 
-  pub all_long : max_lines < length t → AllAnswered t p q 12 t
-  all_long h =
-      let e = lt-ltb max_lines (length t) h in
+  pub swept_all : i ≡ length u → EachAnswered t p q u
+  swept_all e =
+      let f = λ (l : Line). answered_of l p q in
+      let n : i ≡ length t = e ∙ s.same in
       record {
-        answer = rw e;
-        table = rw e;
-        accepts = ((λ z. absurd (omega arith)), (λ z. absurd (omega arith)));
-        refused = λ z. (refl, refl);
-        means = λ z. absurd (omega arith);
-        size = refl;
+        table = ext_get_or no_record u (map f t) (s.same ∙ sym (length-map t f)) (λ k h. (s.done k (omega arith)).answer ∙ sym (get_or-map f t k no_record no_record (omega (arith, s.same))));
+        means = λ k h. s.done k (omega arith);
       }
-
-  pub all_good : length t ≤ max_lines → Done t p q (length t) → AllAnswered t p q 0 (upto (λ l. answered_of l p q) (length t) t)
-  all_good h d =
-      let e = le-ltb max_lines (length t) h in
-      let f = upto_all (λ l. answered_of l p q) t in
-      record {
-        answer = rw e;
-        table = rw e f;
-        accepts = ((λ z. h), (λ z. refl));
-        refused = λ z. absurd (z refl);
-        means = λ z k g. rw (f, map_at (λ l. answered_of l p q) t k no_record g) (d k g);
-        size = upto_length (λ l. answered_of l p q) (length t) t;
-      }
-
-  -- 64 records are not more than 64
-  pub rows_good : (r : ℕ) (t' : List Line) → length t ≡ max_lines → AllAnswered t p q r t' → RowsAnswered t p q t'
-  rows_good r t' n a =
-      let e : too_long t ≡ false = le-ltb max_lines (length t) (omega arith) in
-      record { answer = rw e at a.table; means = λ k h. a.means (a.accepts.1 (omega arith)) k (omega arith) }
 
 -- ---- answering twice, in any order, and all
 module _ (p q : List ℤ) where
@@ -221,7 +136,7 @@ module _ (p q : List ℤ) where
           let n = order_size ks t in
           rw (le-ltb max_lines (length t) (omega arith))
           (ext_get_or no_record (in_order ks t p q) (answered_each t p q) (order_size ks t ∙ sym (length-map t (λ l. answered_of l p q))) (λ j g.
-          rw (order_record ks t j (omega arith) (omega arith), e j (omega arith), map_at (λ l. answered_of l p q) t j no_record (omega arith))))
+          rw (order_record ks t j (omega arith) (omega arith), e j (omega arith), get_or-map (λ l. answered_of l p q) t j no_record no_record (omega arith))))
 
   -- so does the call's own refusal: of a line of the table it is that of the table
   pub same_refusal : (t : List Line) (k : ℕ) → k < length t → line_says t k ≡ all_says t
@@ -261,5 +176,5 @@ module _ (t t' : List Line) (p q p' q' : List ℤ) (k k' : ℕ) (h : k < length 
 
   pub own_among_all : (record_at (all_done t p q) k).answer ≡ (record_at (all_done t' p' q') k').answer
   own_among_all =
-      rw (le-ltb max_lines (length t) few, le-ltb max_lines (length t') few', map_at (λ l. answered_of l p q) t k no_record h, map_at (λ l. answered_of l p' q') t' k' no_record h')
+      rw (le-ltb max_lines (length t) few, le-ltb max_lines (length t') few', get_or-map (λ l. answered_of l p q) t k no_record no_record h, get_or-map (λ l. answered_of l p' q') t' k' no_record no_record h')
       (own_answer (record_at t k).order p q (record_at t' k').order p' q' same)

@@ -1,5 +1,5 @@
 -- A line's record, an order and its answer (01, "Form").
-use Rattle.std.specs.Prelude.{Bool, true, false, ◌≡◌, List, ◌↔◌, ℕ, ◌+◌, ◌≤◌, ltb, length, take, drop, ℤ, pos}
+use Rattle.std.specs.Prelude.{Bool, cond, ◌≡◌, List, ◌↔◌, ℕ, ◌+◌, ◌≤◌, ltb, length, take, drop, ℤ, pos}
 use Rattle.jumper.specs.Refusals.{refusal_numbers}
 use Rattle.jumper.specs.declared.refusal.Numbers.{Numbers}
 use Rattle.jumper.specs.declared.refusal.Refusal.TheVariants.{Line as NoLine}
@@ -26,15 +26,11 @@ top_of o q = pads_of o.top o.pairs q
 abbrev pub wished : Order → Wish
 wished o = wish_of o.separation o.offset
 
-abbrev pub pick_numbers : Bool → Numbers → Numbers → Numbers
-pick_numbers true r s = r
-pick_numbers false r s = s
-
 -- "LINE is tested before 1 to 11."
 abbrev pub answer_of : Order → (pool_a pool_b : List ℤ) → Numbers
 answer_of o p q =
-    pick_numbers (outside o.bottom o.pairs (length p)) (refusal_numbers NoLine)
-    (pick_numbers (outside o.top o.pairs (length q)) (refusal_numbers NoLine)
+    cond (outside o.bottom o.pairs (length p)) (refusal_numbers NoLine)
+    (cond (outside o.top o.pairs (length q)) (refusal_numbers NoLine)
     (plan_of (wished o) (bottom_of o p) (top_of o q)))
 
 -- "writes the answer fields of record k (a refusal included) and nothing else"

@@ -61,6 +61,11 @@ pub record OneAnswered (t : List Line) (k : ℕ) (p q : List ℤ) (r : ℕ) (t' 
   pub others : (j : ℕ) → (j ≡ k → ⊥) → record_at t' j ≡ record_at t j
   pub size : length t' ≡ length t
 
+-- each record answered as `answered` promises
+pub record EachAnswered (t : List Line) (p q : List ℤ) (t' : List Line) : Type 0 where
+  pub table : t' ≡ answered_each t p q
+  pub means : (k : ℕ) → k < length t → LineAnswer (record_at t k) p q (record_at t' k)
+
 -- What `answer_all` promises.
 pub record AllAnswered (t : List Line) (p q : List ℤ) (r : ℕ) (t' : List Line) : Type 0 where
   pub answer : r ≡ all_says t

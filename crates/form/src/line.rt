@@ -1,6 +1,7 @@
 // One line's record, an order and its answer, answered by value.
-ghost use Rattle.std.specs.Prelude.{◌≡◌};
-ghost use Rattle.form.specs.Line.{outside, with_answer, LineAnswer};
+ghost use Rattle.std.specs.Prelude.{◌≡◌, ◌+◌, ◌<◌, ◌≤◌, length, MatchOption, MatchResult};
+ghost use Rattle.jumper.specs.Refusals.{refusal_numbers};
+ghost use Rattle.form.specs.Line.{pads_of, with_answer, LineAnswer};
 
 use jumper::refusal::{Numbers, Refusal};
 use plan::plan::plan;
@@ -8,7 +9,7 @@ use plan::wish::wish_of;
 
 // What a line orders. Only `answer` reads its fields.
 #[repr(C)]
-#[derive(Clone, Copy)]
+#[derive(Clone, Copy, Debug, PartialEq, Eq, Hash)]
 pub struct Order {
     // Where the line's pads start in each pool, and how many pairs they are.
     pub bottom: usize,
@@ -20,50 +21,39 @@ pub struct Order {
 }
 
 #[repr(C)]
-#[derive(Clone, Copy)]
+#[derive(Clone, Copy, Debug, PartialEq, Eq, Hash)]
 pub struct Line {
     pub order: Order,
     pub answer: Numbers,
 }
 
-// Whether `pairs` pads from `start` on run past the end of a pool of `len` columns. No sum is made that could wrap.
-fn runs_out(start: usize, pairs: usize, len: usize) -> bool
-    ensures { result ≡ outside start pairs len }
+// The pads of a pool that a line orders, `pairs` of them from `start` on: none where they run past its end. No sum is made that could wrap.
+fn pads(pool: &[i32], start: usize, pairs: usize) -> Option<&[i32]>
+    ensures { MatchOption result
+        (length pool.now < start + pairs)
+        (λ xs. (start + pairs ≤ length pool.now) × (xs.now ≡ pads_of start pairs pool.now)) }
 {
-    if len < pairs {
-        return true;
-    }
-    len - pairs < start
+    pool.get(start..)?.get(..pairs)
 }
 
-// All the numbers of the answer to a record: LINE where its pads aren't in the pools, else what its wish is answered.
-fn answer(line: Line, pool_a: &[i32], pool_b: &[i32]) -> Numbers
-    ensures { LineAnswer line pool_a.now pool_b.now (with_answer line result) }
+// What a line is answered: LINE where its pads aren't in the pools, else what its wish is.
+fn answer(line: Line, pool_a: &[i32], pool_b: &[i32]) -> Result<Numbers, Refusal>
+    ensures { MatchResult result
+        (λ told. LineAnswer line pool_a.now pool_b.now (with_answer line told))
+        (λ r. LineAnswer line pool_a.now pool_b.now (with_answer line (refusal_numbers r))) }
 {
-    let i = line.order.bottom;
-    let j = line.order.top;
-    let n = line.order.pairs;
-    if runs_out(i, n, pool_a.len()) {
-        return Refusal::Line.numbers();
-    }
-    if runs_out(j, n, pool_b.len()) {
-        return Refusal::Line.numbers();
-    }
-    let p = i + n;
-    let q = j + n;
-    plan(
-        wish_of(line.order.separation, line.order.offset),
-        &pool_a[i..p],
-        &pool_b[j..q],
-    )
+    let order = line.order;
+    let a = pads(pool_a, order.bottom, order.pairs).ok_or(Refusal::Line)?;
+    let b = pads(pool_b, order.top, order.pairs).ok_or(Refusal::Line)?;
+    Ok(plan(wish_of(order.separation, order.offset), a, b))
 }
 
 // The record with its answer, its order as it was.
 pub fn answered(line: Line, pool_a: &[i32], pool_b: &[i32]) -> Line
     ensures { LineAnswer line pool_a.now pool_b.now result }
 {
-    let told = answer(line, pool_a, pool_b);
-    let mut out = line;
-    out.answer = told;
-    out
+    Line {
+        answer: Numbers::from(answer(line, pool_a, pool_b)),
+        ..line
+    }
 }

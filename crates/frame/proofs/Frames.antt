@@ -167,15 +167,32 @@ module _ (bs : List ℕ) where
             ∙ ap (λ (j : ℕ). puts columns 0 (fours bs 3 j)) (sym c);
       }
 
+-- bytes of a header's length carry no columns
+module _ (bs : List ℕ) (n : length bs ≡ 11) where
+  no_carrier : (row : ℕ → List ℤ → Frame) → carrier_of row bs ≡ bad
+  unfolding carrier_of
+  no_carrier row = let z = no_count bs (λ a b d. omega arith) in simp z
+
+  pub not_header : (one bs 0 ≡ 16 → ⊥) → kind_of bs ≡ bad
+  unfolding kind_of
+  not_header h =
+      cond_elim (λ (f : Frame). f ≡ bad) (eqb (one bs 0) 16) (λ e. absurd (h (eqb-true _ _ e)))
+      (λ _. cond_elim (λ (f : Frame). f ≡ bad) (eqb (one bs 0) 17) (λ _. no_carrier bottom)
+      (λ _. cond_elim (λ (f : Frame). f ≡ bad) (eqb (one bs 0) 18) (λ _. no_carrier top) (λ _. refl)))
+
+  no_columns : columns_of (kind_of bs) ≡ []
+  unfolding kind_of header_of
+  no_columns =
+      cond_elim (λ (f : Frame). columns_of f ≡ []) (eqb (one bs 0) 16) (λ _. cond_elim (λ (f : Frame). columns_of f ≡ []) (eqb (length bs) 11) (λ _. refl) (λ _. refl))
+      (λ _. cond_elim (λ (f : Frame). columns_of f ≡ []) (eqb (one bs 0) 17) (λ _. ap columns_of (no_carrier bottom))
+      (λ _. cond_elim (λ (f : Frame). columns_of f ≡ []) (eqb (one bs 0) 18) (λ _. ap columns_of (no_carrier top)) (λ _. refl)))
+
+  pub header_in : (columns : List ℤ) → ReadIn (kind_of bs) columns (said_of (kind_of bs)) columns
+  unfolding puts
+  header_in columns = record { said = refl; carried = ap (puts columns 0) (sym no_columns) }
+
 -- what bytes of one kind say
 module _ (bs : List ℕ) (columns columns' : List ℤ) where
-  pub header_in : one bs 0 ≡ 16 → ReadIn (kind_of bs) columns (said_of (header_of bs)) columns
-  unfolding kind_of header_of puts
-  header_in k =
-      let f : kind_of bs ≡ header_of bs = simp k in
-      let none : columns_of (header_of bs) ≡ [] = cond_elim (λ (h : Frame). columns_of h ≡ []) (eqb (length bs) 11) (λ e. refl) (λ e. refl) in
-      record { said = ap said_of (sym f); carried = ap (puts columns 0) (sym (ap columns_of f ∙ none)) }
-
   -- of columns, in either row
   module _ (row : ℕ → List ℤ → Frame) (says : ℕ → ℕ → Said) (s : (l : ℕ) (cs : List ℤ) → said_of (row l cs) ≡ Some (says l (length cs))) (c : (l : ℕ) (cs : List ℤ) → columns_of (row l cs) ≡ cs) where
     row_in : kind_of bs ≡ carrier_of row bs → (r : Option ℕ) → Carried bs columns r columns' → ReadIn (kind_of bs) columns (option_map (says (one bs 1)) r) columns'
@@ -207,9 +224,9 @@ module _ (bs : List ℕ) (columns columns' : List ℤ) where
   unfolding kind_of
   top_in k = row_in top Top (λ l cs. refl) (λ l cs. refl) (simp k)
 
-pub other_in : (bs : List ℕ) (columns : List ℤ) → (one bs 0 ≡ 16 → ⊥) → (one bs 0 ≡ 17 → ⊥) → (one bs 0 ≡ 18 → ⊥) → ReadIn (kind_of bs) columns None columns
-unfolding kind_of
-other_in bs columns h b t = bad_read (kind_of bs) columns (simp (ne_eqb _ _ h, ne_eqb _ _ b, ne_eqb _ _ t))
+pub other_in : (bs : List ℕ) (columns : List ℤ) → (length bs ≡ 11 → ⊥) → (one bs 0 ≡ 17 → ⊥) → (one bs 0 ≡ 18 → ⊥) → ReadIn (kind_of bs) columns None columns
+unfolding kind_of header_of
+other_in bs columns h b t = bad_read (kind_of bs) columns (either (eqb (one bs 0) 16) (λ e. simp (e, ne_eqb _ _ h)) (λ e. simp (e, ne_eqb _ _ b, ne_eqb _ _ t)))
 
 -- ---- the line feed
 

@@ -1,6 +1,6 @@
 // A line read as a frame.
-ghost use Rattle.std.specs.Prelude.{◌≡◌, ◌+◌, ◌*◌, ◌<◌, ◌≤◌, ◌%◌, ◌⊎◌, ◌↔◌, length, IsTrue};
-ghost use Rattle.frame.specs.Frame.{one, two, four, fours, header_of, kind_of, text_frame, frame_of, said_of};
+ghost use Rattle.std.specs.Prelude.{◌≡◌, ◌+◌, ◌*◌, ◌<◌, ◌≤◌, ◌%◌, ◌↔◌, ◌≢◌, length, IsTrue};
+ghost use Rattle.frame.specs.Frame.{one, two, four, fours, kind_of, text_frame, frame_of, said_of};
 ghost use Rattle.frame.specs.Puts.{puts, Carried, ReadIn};
 
 use crate::hex::{LONGEST, decode};
@@ -36,13 +36,13 @@ fn four_at(bytes: &[u8], i: usize) -> i32
     i32::from_be_bytes([bytes[i], bytes[i + 1], bytes[i + 2], bytes[i + 3]])
 }
 
-// The header of a sound text, from its bytes.
-#[tactic(auto, unfolding(crate::specs::Frame::header_of))]
+// What a sound text of a header's length says, from its bytes.
+#[tactic(auto, unfolding(crate::specs::Frame::kind_of, crate::specs::Frame::header_of))]
 fn header(bytes: &[u8]) -> Option<Said>
-    requires { 0 < length bytes.now }
-    ensures { result ≡ said_of (header_of bytes.now) }
+    requires { length bytes.now ≡ 11 }
+    ensures { result ≡ said_of (kind_of bytes.now) }
 {
-    if bytes.len() != 11 {
+    if bytes[0] != 0x10 {
         return None;
     }
     Some(Said::Header(Order {
@@ -68,25 +68,24 @@ fn carry(bytes: &[u8], columns: &mut [i32; 16]) -> Option<usize>
     Some(k)
 }
 
-// What a sound text says, from its bytes.
-fn say(bytes: &[u8], columns: &mut [i32; 16]) -> Option<Said>
-    requires { 4 ≤ length bytes.now }
+// What a sound text of another length says.
+fn carrier(bytes: &[u8], columns: &mut [i32; 16]) -> Option<Said>
+    requires { (4 ≤ length bytes.now) × (length bytes.now ≢ 11) }
     ensures { ReadIn (kind_of bytes.now) columns.old result columns.new }
 {
     let (kind, line) = (bytes[0], bytes[1]);
     match kind {
-        0x10 => header(bytes),
         0x11 => Some(Said::Bottom(line, carry(bytes, columns)?)),
         0x12 => Some(Said::Top(line, carry(bytes, columns)?)),
         _ => None,
     }
 }
 
-// Whether a frame's text can be this long: 11 bytes, or 4 and 4 for each column, two digits a byte.
-fn is_length(n: usize) -> bool
-    ensures { IsTrue result ↔ ((n ≡ 22) ⊎ ((n % 8 ≡ 0) × (16 ≤ n) × (n ≤ 136))) }
+// Whether a text of columns can be this long: 4 bytes, and 4 for each column, two digits a byte.
+fn is_carrier(n: usize) -> bool
+    ensures { IsTrue result ↔ ((n % 8 ≡ 0) × (16 ≤ n) × (n ≤ 136)) }
 {
-    n == 22 || n % 8 == 0 && 16 <= n && n <= LONGEST
+    n % 8 == 0 && (16..=LONGEST).contains(&n)
 }
 
 // What a line says, from its text: all before its line feed. Its columns go into the lent memory, from the first place on. The length decides first: it
@@ -94,11 +93,14 @@ fn is_length(n: usize) -> bool
 pub fn read_text(text: &[u8], columns: &mut [i32; 16]) -> Option<Said>
     ensures { ReadIn (text_frame text.now) columns.old result columns.new }
 {
-    if !is_length(text.len()) {
-        return None;
-    }
     let mut room = [0u8; 68];
-    say(decode(text, &mut room)?, columns)
+    if text.len() == 22 {
+        header(decode(text, &mut room)?)
+    } else if is_carrier(text.len()) {
+        carrier(decode(text, &mut room)?, columns)
+    } else {
+        None
+    }
 }
 
 // What a line says, its line feed with it.

@@ -1,3 +1,4 @@
+use Rattle.std.specs.Prelude.{Ok, Err}
 -- WHAT THE CALLS PROMISE, from what their parts find.
 -- Sections: the check; still_fits; part_route.
 use mathlib.Core.Path.{◌≡◌, refl, sym, ◌∙◌}
@@ -15,12 +16,10 @@ use Rattle.wiring.specs.Wiring.{pad, top_pad}
 use Rattle.wiring.proofs.Parts.{part_length, dropped_legal, dropped_wiring}
 use Rattle.jumper.specs.Limits.{max_tracks}
 use Rattle.jumper.specs.Refusals.{refusal_numbers}
-use Rattle.jumper.specs.Rows.{checked_numbers, pick}
+use Rattle.jumper.specs.Rows.{Checked, checked_numbers, pick}
 use Rattle.jumper.specs.Asked.{check_asked, Asked}
 use Rattle.jumper.specs.declared.refusal.Refusal.{Refusal}
 use Rattle.jumper.specs.declared.refusal.Refusal.TheVariants.{Unequal, Empty, Buffer}
-use Rattle.jumper.specs.declared.rows.Checked.{Checked}
-use Rattle.jumper.specs.declared.rows.Checked.TheVariants.{Accepted, Refused}
 use Rattle.jumper.proofs.Accepted.{numbered, accepted_of, number_of, refused_not, first, second, both}
 use Rattle.jumper.proofs.Checks.{accepted_asked, asked_accepted, Early, early_pick, early_or, early_asked}
 use Rattle.fit.specs.Misfit.{FitAnswer}
@@ -28,69 +27,49 @@ use Rattle.route.specs.Table.{column_in, LegalRoute}
 use Rattle.route.specs.Check.{RouteCheck}
 use Rattle.route.proofs.Places.{wires_at}
 use Rattle.route.proofs.Answers.{legal_same}
-use Rattle.parts.specs.Stays.{kept, row_kept, wire_kept, stays_fault, check_part, AskedPart, PartCheck}
+use Rattle.parts.specs.Stays.{kept, row_kept, wire_kept, stays_fault, check_part, AskedPart}
+use Rattle.parts.specs.declared.stays.Part.{Part}
 use Rattle.parts.specs.Still.{StillAnswer}
 use Rattle.parts.specs.Routed.{places_kept, part_written, Short, RoutedAnswer}
 use Rattle.parts.proofs.Remains.{part_choice, part_asked}
 
+-- what a part's check says of the part that it lets through
+abbrev pub Through : (a b : List ℤ) (stays : List ℕ) (s : ℕ) (d : ℤ) → Part → Type 0
+Through a b stays s d p =
+    (p.question.rows.bottom.now ≡ a) × (p.question.rows.top.now ≡ b) × (p.stays.now ≡ stays) × (p.question.separation ≡ s) × (p.question.offset ≡ d)
+
 module _ (a b : List ℤ) (stays : List ℕ) (s : ℕ) (d : ℤ) where
-  -- THE CHECK lets through exactly what is accepted
-  pub accepted_part : check_part a b stays s d ≡ Accepted → AskedPart a b stays s d
-  accepted_part e =
-      let n = length (kept stays) in
-      let f = both (stays_fault a b stays) (check_asked a b s d) e in
-      let some = pick (eqb n 0) (Refused Empty) Accepted in
-      let u = first (eqb (length a) (length b)) (pick (eqb (length a) (length stays)) some (Refused Unequal)) Unequal f.0 in
-      let v = first (eqb (length a) (length stays)) some Unequal u.1 in
-      let z = eqb-false n 0 (second (eqb n 0) Empty Accepted v.1).0 in
-      record { whole = accepted_asked a b s d f.1; bytes = eqb-true (length a) (length stays) v.0; some = omega arith }
+  -- THE CHECK lets through all that is accepted; that it lets nothing else through, its part keeps
+  stays_accepted : AskedPart a b stays s d → stays_fault a b stays ≡ Ok tt
+  stays_accepted k =
+      rw (eq-eqb (length a) (length b) k.whole.rows.equal, eq-eqb (length a) (length stays) k.bytes, ne_eqb (length (kept stays)) 0 (λ z. omega (arith, k.some)))
 
-  stays_accepted : length a ≡ length b → length a ≡ length stays → eqb (length (kept stays)) 0 ≡ false → stays_fault a b stays ≡ Accepted
-  stays_accepted e f z = rw (eq-eqb (length a) (length b) e, eq-eqb (length a) (length stays) f, z)
+  part_accepted : AskedPart a b stays s d → check_part a b stays s d ≡ Ok tt
+  part_accepted k = rw (stays_accepted k) (asked_accepted a b s d k.whole)
 
-  part_accepted : AskedPart a b stays s d → check_part a b stays s d ≡ Accepted
-  part_accepted k =
-      let some = ne_eqb (length (kept stays)) 0 (λ z. omega (arith, k.some)) in
-      rw (stays_accepted k.whole.rows.equal k.bytes some) (asked_accepted a b s d k.whole)
-
-  part_check : (r : Checked) → r ≡ check_part a b stays s d → PartCheck a b stays s d r
-  part_check r e = record { answer = e; accepts = ((λ n. accepted_part (sym e ∙ accepted_of r n)), (λ k. number_of r (e ∙ part_accepted k))) }
-
-  -- as the code goes
-  pub rows_unequal : length a ≢ length b → PartCheck a b stays s d (Refused Unequal)
-  rows_unequal n = part_check (Refused Unequal) (sym (rw (ne_eqb (length a) (length b) n)))
-
-  module _ (e : length a ≡ length b) where
-    pub bytes_unequal : length a ≢ length stays → PartCheck a b stays s d (Refused Unequal)
-    bytes_unequal n = part_check (Refused Unequal) (sym (rw (eq-eqb (length a) (length b) e, ne_eqb (length a) (length stays) n)))
-
-    module _ (f : length a ≡ length stays) where
-      pub none_kept : eqb (length (kept stays)) 0 ≡ true → PartCheck a b stays s d (Refused Empty)
-      none_kept z = part_check (Refused Empty) (sym (rw (eq-eqb (length a) (length b) e, eq-eqb (length a) (length stays) f, z)))
-
-      pub some_kept : eqb (length (kept stays)) 0 ≡ false → (r : Checked) → r ≡ check_asked a b s d → PartCheck a b stays s d r
-      some_kept z r g = part_check r (g ∙ sym (rw (stays_accepted e f z)))
+  pub asked_part : (p : Part) → Through a b stays s d p → AskedPart a b stays s d
+  asked_part p e = rw (e.0, e.1, e.2, e.3, e.4) at p.asked
 
   -- its refusals are 1 to 7
   early_part : Early 7 (check_part a b stays s d)
   early_part =
       let n = length (kept stays) in
-      let some = pick (eqb n 0) (Refused Empty) Accepted in
-      let bytes = pick (eqb (length a) (length stays)) some (Refused Unequal) in
-      let early-some = early_pick 7 (eqb n 0) (Refused Empty) Accepted (omega arith) tt in
-      let early-bytes = early_pick 7 (eqb (length a) (length stays)) some (Refused Unequal) early-some (omega arith) in
-      let early-stays = early_pick 7 (eqb (length a) (length b)) bytes (Refused Unequal) early-bytes (omega arith) in
+      let some = pick (eqb n 0) (Err Empty) (Ok tt) in
+      let bytes = pick (eqb (length a) (length stays)) some (Err Unequal) in
+      let early-some = early_pick 7 (eqb n 0) (Err Empty) (Ok tt) (omega arith) tt in
+      let early-bytes = early_pick 7 (eqb (length a) (length stays)) some (Err Unequal) early-some (omega arith) in
+      let early-stays = early_pick 7 (eqb (length a) (length b)) bytes (Err Unequal) early-bytes (omega arith) in
       early_or 7 (stays_fault a b stays) (check_asked a b s d) early-stays (early_asked a b s d)
 
   -- STILL_FITS
-  module _ (r : Refusal) (e : check_part a b stays s d ≡ Refused r) where
+  module _ (r : Refusal) (e : check_part a b stays s d ≡ Err r) where
     unasked : AskedPart a b stays s d → ⊥
     unasked k = refused_not r (sym e ∙ part_accepted k)
 
-    early : Early 7 (Refused r)
+    early : Early 7 (Err r)
     early = rw e at early_part
 
-    pub still_refused : StillAnswer a b stays s d (Refused r)
+    pub still_refused : StillAnswer a b stays s d (Err r)
     still_refused =
         record {
           answer = sym (rw e);
@@ -101,12 +80,11 @@ module _ (a b : List ℤ) (stays : List ℕ) (s : ℕ) (d : ℤ) where
         }
 
   -- what `fit` answers of the rows left
-  pub still_found : check_part a b stays s d ≡ Accepted → (r : Checked) → FitAnswer (row_kept stays a) (row_kept stays b) s d r → StillAnswer a b stays s d r
-  still_found e r f =
-      let k = accepted_part e in
+  pub still_found : AskedPart a b stays s d → (r : Checked) → FitAnswer (row_kept stays a) (row_kept stays b) s d r → StillAnswer a b stays s d r
+  still_found k r f =
       let l = part_asked k in
       record {
-        answer = f.answer ∙ rw (asked_accepted _ _ _ _ l, e);
+        answer = f.answer ∙ rw (asked_accepted _ _ _ _ l, part_accepted k);
         fits = ((λ z. (k, (f.fits.0 z).1)), (λ z. f.fits.1 (l, z.1)));
         prevents = ((λ z. (k, (f.prevents.0 z).1)), (λ z. f.prevents.1 (l, z.1)));
         witness = f.witness;
@@ -115,7 +93,7 @@ module _ (a b : List ℤ) (stays : List ℕ) (s : ℕ) (d : ℤ) where
 
 -- PART_ROUTE, of the old table and of what the buffer holds before
 module _ (a b : List ℤ) (stays : List ℕ) (s : ℕ) (d : ℤ) (table out : List ℤ) where
-  pub routed_early : (r : Refusal) → check_part a b stays s d ≡ Refused r → RoutedAnswer a b stays s d table out out (Refused r)
+  pub routed_early : (r : Refusal) → check_part a b stays s d ≡ Err r → RoutedAnswer a b stays s d table out out (Err r)
   routed_early r e =
       let not = unasked a b stays s d r e in
       let l = early a b stays s d r e in
@@ -132,7 +110,7 @@ module _ (a b : List ℤ) (stays : List ℕ) (s : ℕ) (d : ℤ) (table out : Li
       }
 
   module _ (k : AskedPart a b stays s d) where
-    e : check_part a b stays s d ≡ Accepted
+    e : check_part a b stays s d ≡ (Ok tt)
     e = part_accepted a b stays s d k
 
     -- what is lent to the leaf that writes them
@@ -140,7 +118,7 @@ module _ (a b : List ℤ) (stays : List ℕ) (s : ℕ) (d : ℤ) (table out : Li
         → (s ≤ max_tracks) × (length stays * (s + 1) ≤ length table) × (places_kept stays s ≤ length out)
     table_lent room long = (k.whole.tracks, rw (← k.bytes) long, room)
 
-    pub routed_short : length out < places_kept stays s → RoutedAnswer a b stays s d table out out (Refused Buffer)
+    pub routed_short : length out < places_kept stays s → RoutedAnswer a b stays s d table out out (Err Buffer)
     routed_short h =
         record {
           answer = sym (rw (e, lt-ltb (length out) (places_kept stays s) h));
@@ -159,7 +137,7 @@ module _ (a b : List ℤ) (stays : List ℕ) (s : ℕ) (d : ℤ) (table out : Li
       module _ (r : Checked) (f : RouteCheck a b s d table r) where
         table_short : length table < length a * (s + 1) → (checked_numbers r).refusal ≡ 9
         table_short h =
-            let e : r ≡ Refused Buffer = f.answer ∙ rw (asked_accepted a b s d k.whole, lt-ltb (length table) (length a * (s + 1)) h) in
+            let e : r ≡ Err Buffer = f.answer ∙ rw (asked_accepted a b s d k.whole, lt-ltb (length table) (length a * (s + 1)) h) in
             rw e
 
         table_long : length a * (s + 1) ≤ length table → (checked_numbers r).refusal ≢ 9
@@ -167,7 +145,7 @@ module _ (a b : List ℤ) (stays : List ℕ) (s : ℕ) (d : ℤ) (table out : Li
             let unlawful : LegalRoute a b s d table → ⊥ = λ l. omega (arith, z, f.accepts.1 (k.whole, h, l)) in
             omega (arith, z, f.refuses.1 (k.whole, h, unlawful))
 
-      pub routed_refused : (r : Refusal) → RouteCheck a b s d table (Refused r) → RoutedAnswer a b stays s d table out out (Refused r)
+      pub routed_refused : (r : Refusal) → RouteCheck a b s d table (Err r) → RoutedAnswer a b stays s d table out out (Err r)
       routed_refused r f =
           record {
             answer = f.answer ∙ sym (rw (e, le-ltb (length out) (places_kept stays s) room));
@@ -176,7 +154,7 @@ module _ (a b : List ℤ) (stays : List ℕ) (s : ℕ) (d : ℤ) (table out : Li
             routes = ((λ z. absurd (numbered r z)), (λ z. f.accepts.1 (k.whole, z.1.0, z.2)));
             short = (
               (λ z. (k, is_short z (dec_lt (length table) (length a * (s + 1))))),
-              (λ z. ⊎_elim (table_short (Refused r) f) (λ h. absurd (omega arith)) z.1),
+              (λ z. ⊎_elim (table_short (Err r) f) (λ h. absurd (omega arith)) z.1),
             );
             faulty = ((λ z. let q = f.refuses.0 z in (k, (q.1, room), q.2)), (λ z. f.refuses.1 (k.whole, z.1.0, z.2)));
             fault = f.fault;
@@ -186,11 +164,11 @@ module _ (a b : List ℤ) (stays : List ℕ) (s : ℕ) (d : ℤ) (table out : Li
         where
           is_short : (refusal_numbers r).refusal ≡ 9 → Dec (length table < length a * (s + 1)) → Short a stays s table out
           is_short z (yes h) = inl h
-          is_short z (no h) = absurd (table_long (Refused r) f (omega arith) z)
+          is_short z (no h) = absurd (table_long (Err r) f (omega arith) z)
 
       -- the table was legal, so the wires that stay are a legal wiring of the part
-      pub routed_done : RouteCheck a b s d table Accepted → (out' : List ℤ) → out' ≡ part_written stays s table out
-          → RoutedAnswer a b stays s d table out out' Accepted
+      pub routed_done : RouteCheck a b s d table (Ok tt) → (out' : List ℤ) → out' ≡ part_written stays s table out
+          → RoutedAnswer a b stays s d table out out' (Ok tt)
       routed_done f out' g =
           record {
             answer = f.answer ∙ sym (rw (e, le-ltb (length out) (places_kept stays s) room));

@@ -1,5 +1,6 @@
 -- WHICH PAIRS STAY: the laws of `kept_among`, by which all else uses it.
 use mathlib.Core.Path.{◌≡◌, refl, sym, ap, ◌∙◌}
+use mathlib.Core.Bool.{Bool, true, false, cond, not, ◌&&◌}
 use mathlib.Core.List.{List, [], ◌∷◌, ◌++◌, append_assoc, append-nil}
 use mathlib.Core.Logic.{◌⊎◌, inl, inr, ⊎_elim, ◌≢◌, ◌↔◌}
 use Prim.Native.Nat.{ℕ, zero, suc, ◌+◌, ◌-◌, ◌≤◌, ◌<◌}
@@ -8,8 +9,12 @@ use native.Mathlib.Nat.{eq-or-lt_of_le}
 use native.Mathlib.Numerals.{add-one}
 use native.Mathlib.Omega.{arith}
 use borrow.Author.Tests.{eq-eqb, ne_eqb}
-use lib.ListN.{length, get_or, length-append, get_or-append}
-use lib.Seq.{get_or-append_seam}
+use lib.Dec.{eqb}
+use lib.ListN.{length, get_or, take, length-append, get_or-append}
+use lib.Seq.{get_or-append_seam, take-length}
+use Rattle.std.proofs.Common.{zero-add}
+use Rattle.std.specs.List.{count_by, list_all}
+use Rattle.std.proofs.lemmas.List.Sums.{count_by_more_no, count_by_more_yes, sum_by-cons}
 use Rattle.wiring.specs.Part.{pair_of, Choice}
 use Rattle.parts.specs.Stays.{kept_among, kept}
 
@@ -35,12 +40,12 @@ module _ (stays : List ℕ) (n : ℕ) where
   one_more e = rw (add-one n, kept_stays e) (length-append (kept_among stays n) (n ∷ []))
 
 -- by cases of the next byte
-abbrev Goes : (stays : List ℕ) (n : ℕ) → Type 0
+abbrev pub Goes : (stays : List ℕ) (n : ℕ) → Type 0
 Goes stays n =
     ((get_or stays n 0 ≡ 0) × (kept_among stays (suc n) ≡ kept_among stays n))
     ⊎ ((get_or stays n 0 ≢ 0) × (kept_among stays (suc n) ≡ kept_among stays n ++ (n ∷ [])))
 
-goes : (stays : List ℕ) (n : ℕ) → Goes stays n
+pub goes : (stays : List ℕ) (n : ℕ) → Goes stays n
 goes stays n = go (dec_le (get_or stays n 0) 0)
   where
     go : Dec (get_or stays n 0 ≤ 0) → Goes stays n
@@ -53,6 +58,33 @@ kept_few stays zero = omega arith
 kept_few stays (suc n) =
     let few = kept_few stays n in
     ⊎_elim (λ g. rw g.1 (omega arith)) (λ g. rw g.1 (omega (arith, length-append (kept_among stays n) (n ∷ [])))) (goes stays n)
+
+-- their number, by the bytes: those that aren't 0 are counted
+counted : (stays : List ℕ) (n : ℕ) → n ≤ length stays → count_by (λ x. not (eqb x 0)) (take n stays) ≡ length (kept_among stays n)
+counted stays zero h = sym (kept_none stays)
+counted stays (suc n) h =
+    let p : ℕ → Bool = λ x. not (eqb x 0) in
+    let ih = counted stays n (omega arith) in
+    let l : n < length stays = omega arith in
+    rw (← add-one n)
+    (⊎_elim
+    (λ g. count_by_more_no p stays n 0 l (rw (eq-eqb (get_or stays n 0) 0 g.0)) ∙ ih ∙ sym (as_many stays n g.0))
+    (λ g. count_by_more_yes p stays n 0 l (rw (ne_eqb (get_or stays n 0) 0 g.0)) ∙ ap (λ (m : ℕ). m + 1) ih ∙ sym (one_more stays n g.0))
+    (goes stays n))
+
+pub kept_count : (stays : List ℕ) → count_by (λ x. not (eqb x 0)) stays ≡ length (kept stays)
+kept_count stays = rw take-length at (counted stays (length stays) (omega arith))
+
+one_byte : (b : Bool) (rest : Bool) (n : ℕ) → rest ≡ eqb n 0 → (b && rest) ≡ eqb (cond (not b) 1 0 + n) 0
+one_byte true rest n e = rw zero-add e
+one_byte false rest n e = sym (ne_eqb (1 + n) 0 (λ z. omega arith))
+
+all_dropped : (bytes : List ℕ) → list_all (λ x. eqb x 0) bytes ≡ eqb (count_by (λ x. not (eqb x 0)) bytes) 0
+all_dropped [] = refl
+all_dropped (x ∷ bytes) = rw (sum_by-cons (λ (y : ℕ). cond (not (eqb y 0)) 1 0) x bytes) (one_byte (eqb x 0) _ _ (all_dropped bytes))
+
+pub none_kept : (stays : List ℕ) → list_all (λ x. eqb x 0) stays ≡ eqb (length (kept stays)) 0
+none_kept stays = all_dropped stays ∙ ap (λ (n : ℕ). eqb n 0) (kept_count stays)
 
 -- THE PAIRS THAT STAY ARE A CHOICE of the jumper's pairs
 snoc_choice : {n : ℕ} {ks : List ℕ} → Choice n ks → Choice (suc n) (ks ++ (n ∷ []))

@@ -1,5 +1,6 @@
 -- WHAT THE CALLS ANSWER of a jumper and of a part of it (02, #113): neither the least nor the best separation rises when pairs are dropped, and a pair added
 -- after the last raises each by two at most. Said of any answers of `least_at` and `best_of`, by their promises.
+use Rattle.std.specs.Prelude.{Result}
 use mathlib.Core.Path.{◌≡◌}
 use mathlib.Core.List.{List}
 use Prim.Native.Nat.{ℕ, suc, ◌≤◌, ◌<◌}
@@ -14,10 +15,10 @@ use Rattle.wiring.specs.Part.{Choice, part_of, longer}
 use Rattle.wiring.proofs.Serves.{rule_above, rule_most, rule_next, rule_up}
 use Rattle.wiring.proofs.Parts.{dropped_wiring, shorter_wiring, added_wiring}
 use Rattle.jumper.specs.Rows.{AcceptedRows}
+use Rattle.jumper.specs.declared.refusal.Refusal.{Refusal}
 use Rattle.fit.specs.Least.{least_numbers, LeastAnswer}
 use Rattle.fit.specs.declared.least.Least.{Least}
-use Rattle.best.specs.Best.{best_numbers, ladder_of, BestAnswer}
-use Rattle.best.specs.declared.plan.Best.{Best}
+use Rattle.best.specs.Best.{Best, best_numbers, ladder_of, BestAnswer}
 use Rattle.parts.specs.Grows.{Grows}
 use Rattle.parts.proofs.Remains.{part_rows, part_shift, shorter_rows}
 
@@ -54,7 +55,7 @@ best_under {a} {b} s p z = not_above (Somewhere a b) _ s (λ t h w. p.none z t h
 
 -- PAIRS DROPPED: the question about what remains is accepted too, and its answer isn't greater
 module _ {a b : List ℤ} {kept : List ℕ} (c : Choice (length a) kept) (some : 1 ≤ length kept) where
-  pub least_dropped : {d : ℤ} {r r' : Least} → LeastAnswer a b d r → LeastAnswer (part_of kept a) (part_of kept b) d r' → (least_numbers r).refusal ≡ 0
+  pub least_dropped : {d : ℤ} {r r' : Result Least Refusal} → LeastAnswer a b d r → LeastAnswer (part_of kept a) (part_of kept b) d r' → (least_numbers r).refusal ≡ 0
       → ((least_numbers r').refusal ≡ 0) × ((least_numbers r').separation ≤ (least_numbers r).separation)
   least_dropped {d} p q z =
       let z' = q.accepts.1 (part_shift c some (p.accepts.0 z)) in
@@ -82,7 +83,7 @@ module _ (a b : List ℤ) (x y : ℤ) (some : 1 ≤ length a) where
     fewer : (s : ℕ) (d : ℤ) → HasWiring (longer a x) (longer b y) s d → HasWiring a b s d
     fewer s d = shorter_wiring a b x y rows.equal s d
 
-  pub least_added : {d : ℤ} {p q : Least} → LeastAnswer a b d p → LeastAnswer (longer a x) (longer b y) d q → (least_numbers q).refusal ≡ 0
+  pub least_added : {d : ℤ} {p q : Result Least Refusal} → LeastAnswer a b d p → LeastAnswer (longer a x) (longer b y) d q → (least_numbers q).refusal ≡ 0
       → ((least_numbers p).refusal ≡ 0) × Grows (least_numbers p).separation (least_numbers q).separation
   least_added {d} f g z' =
       let l = g.accepts.0 z' in

@@ -5,7 +5,7 @@
 use Rattle.std.specs.Prelude.{◌≡◌, List, ◌++◌, ◌⊎◌, ◌↔◌, ℕ, ◌+◌, ◌*◌, ◌≤◌, ◌<◌, length, drop, ℤ}
 use Rattle.wiring.specs.Wiring.{pad, top_pad}
 use Rattle.jumper.specs.Rows.{checked_numbers, or_else}
-use Rattle.jumper.specs.declared.rows.Checked.{Checked}
+use Rattle.jumper.specs.Rows.{Checked}
 use Rattle.route.specs.Table.{column_in, no_room, LegalRoute}
 use Rattle.route.specs.Draw.{buffer_after}
 use Rattle.route.specs.Check.{FirstFault, route_checked}

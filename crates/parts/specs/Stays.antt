@@ -3,13 +3,11 @@
 --
 -- Worked: the bytes 1,0,7,1 keep pairs 0, 2 and 3 of J = rows 0,1,4,5 and 1,2,3,4: rows 0,4,5 and 1,3,4 remain. Three bytes for J are UNEQUAL, four bytes 0
 -- EMPTY. Were a column of J out of range, four bytes 0 would still be EMPTY, and any others COLUMN, even if that column's pair is dropped.
-use Rattle.std.specs.Prelude.{cond, ◌≡◌, List, [], ◌∷◌, ◌++◌, ◌↔◌, ℕ, zero, suc, ◌≤◌, eqb, length, get_or, ℤ}
+use Rattle.std.specs.Prelude.{Ok, Err, cond, ◌≡◌, List, [], ◌∷◌, ◌++◌, ◌↔◌, ℕ, zero, suc, ◌≤◌, eqb, length, get_or, ℤ}
 use Rattle.wiring.specs.Part.{pair_of, part_of}
-use Rattle.jumper.specs.Rows.{checked_numbers, pick, or_else}
+use Rattle.jumper.specs.Rows.{Checked, pick, or_else}
 use Rattle.jumper.specs.Asked.{check_asked, Asked}
 use Rattle.jumper.specs.declared.refusal.Refusal.TheVariants.{Unequal, Empty}
-use Rattle.jumper.specs.declared.rows.Checked.{Checked}
-use Rattle.jumper.specs.declared.rows.Checked.TheVariants.{Accepted, Refused}
 use Rattle.route.specs.Table.{column_in, wires}
 
 -- the numbers of the pairs that stay, among the first n. That these are all whose byte isn't 0, and no others, each greater than the one before, are the laws
@@ -37,9 +35,9 @@ abbrev pub stays_fault : (a b : List ℤ) (stays : List ℕ) → Checked
 stays_fault a b stays =
     pick (eqb (length a) (length b))
     (pick (eqb (length a) (length stays))
-    (pick (eqb (length (kept stays)) 0) (Refused Empty) Accepted)
-    (Refused Unequal))
-    (Refused Unequal)
+    (pick (eqb (length (kept stays)) 0) (Err Empty) (Ok tt))
+    (Err Unequal))
+    (Err Unequal)
 
 -- "Refusals 1 to 7 by number": 1 and 2 speak of the bytes too, "all else is of the whole rows"
 abbrev pub check_part : (a b : List ℤ) (stays : List ℕ) (s : ℕ) (d : ℤ) → Checked
@@ -50,8 +48,3 @@ pub record AskedPart (a b : List ℤ) (stays : List ℕ) (s : ℕ) (d : ℤ) : T
   pub whole : Asked a b s d
   pub bytes : length a ≡ length stays
   pub some : 1 ≤ length (kept stays)
-
--- What the check promises: which refusal, and that there is none exactly for what is accepted.
-pub record PartCheck (a b : List ℤ) (stays : List ℕ) (s : ℕ) (d : ℤ) (r : Checked) : Type 0 where
-  pub answer : r ≡ check_part a b stays s d
-  pub accepts : ((checked_numbers r).refusal ≡ 0) ↔ AskedPart a b stays s d

@@ -1,55 +1,52 @@
 // Which pairs stay: a lent row of bytes, one a pair, 0 for a pair that is dropped and anything else for one that stays. And the checks of a part.
-ghost use Rattle.std.specs.Prelude.{◌≡◌, eqb, length};
-ghost use Rattle.parts.specs.Stays.{kept, PartCheck};
+ghost use Rattle.std.specs.Prelude.{◌≡◌, Err, IfOk, IfErr, eqb, length};
+ghost use Rattle.parts.specs.Stays.{kept, check_part, AskedPart};
 
-use jumper::asked::check_asked;
+use jumper::asked::Question;
 use jumper::refusal::Refusal;
-use jumper::rows::Checked;
 
 // How many pairs stay.
-#[tactic(auto, using(crate::proofs::Keeping::as_many, crate::proofs::Keeping::one_more, crate::proofs::Keeping::kept_few, crate::proofs::Keeping::kept_none))]
+#[tactic(auto, using(crate::proofs::Keeping::kept_count))]
 pub(crate) fn pairs_kept(stays: &[u8]) -> usize
     ensures { result ≡ length (kept stays.now) }
 {
-    let mut m: usize = 0;
-    let mut i: usize = 0;
-    while i < stays.len() {
-        if stays[i] != 0 {
-            m += 1;
-        }
-        i += 1;
-    }
-    m
+    stays.iter().filter(|&&stay| stay != 0).count()
 }
 
 // Whether no pair stays. It stops at the first that does, where counting them would read all bytes.
-#[tactic(auto, using(crate::proofs::Keeping::as_many, crate::proofs::Keeping::kept_none, crate::proofs::Keeping::kept_room))]
 fn none_stays(stays: &[u8]) -> bool
     ensures { result ≡ eqb (length (kept stays.now)) 0 }
 {
-    let mut passed: usize = 0;
-    while passed < stays.len() {
-        if stays[passed] != 0 {
-            return false;
-        }
-        passed += 1;
-    }
-    true
+    stays.iter().all(|&stay| stay == 0)
 }
 
-// Refusals 1 to 7, by number: UNEQUAL and EMPTY speak of the bytes too, all others of the whole rows.
-pub(crate) fn check_part(a: &[i32], b: &[i32], stays: &[u8], s: usize, d: i32) -> Checked
-    ensures { PartCheck a.now b.now stays.now s d result }
-{
-    let n = a.len();
-    if n != b.len() {
-        return Checked::Refused(Refusal::Unequal);
+// An accepted question with a byte for each pair, of which one at least stays. Only `check` makes it.
+#[derive(Clone, Copy)]
+pub(crate) struct Part<'a> {
+    pub question: Question<'a>,
+    pub stays: &'a [u8],
+    ghost asked: { AskedPart question.rows.bottom.now question.rows.top.now stays.now question.separation question.offset },
+}
+
+impl<'a> Part<'a> {
+    // Refusals 1 to 7, by number: UNEQUAL and EMPTY speak of the bytes too, all others of the whole rows.
+    pub(crate) fn check(
+        a: &'a [i32],
+        b: &'a [i32],
+        stays: &'a [u8],
+        s: usize,
+        d: i32,
+    ) -> Result<Part<'a>, Refusal>
+        ensures ok { IfOk result (λ p. (p.question.rows.bottom.now ≡ a.now) × (p.question.rows.top.now ≡ b.now) × (p.stays.now ≡ stays.now) × (p.question.separation ≡ s) × (p.question.offset ≡ d)) }
+        ensures err { IfErr result (λ r. check_part a.now b.now stays.now s d ≡ Err r) }
+    {
+        if a.len() != b.len() || a.len() != stays.len() {
+            return Err(Refusal::Unequal);
+        }
+        if none_stays(stays) {
+            return Err(Refusal::Empty);
+        }
+        let question = Question::check(a, b, s, d)?;
+        Ok(Part { question, stays })
     }
-    if n != stays.len() {
-        return Checked::Refused(Refusal::Unequal);
-    }
-    if none_stays(stays) {
-        return Checked::Refused(Refusal::Empty);
-    }
-    check_asked(a, b, s, d)
 }

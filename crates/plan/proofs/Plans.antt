@@ -1,5 +1,6 @@
 -- What each of the four calls promises, said of the numbers that answer its wish.
-use mathlib.Core.Path.{◌≡◌, refl, sym, ap, ◌∙◌}
+use Rattle.std.specs.Prelude.{Option, Some, None, Result, Ok, Err}
+use mathlib.Core.Path.{◌≡◌, refl, ap, ◌∙◌}
 use mathlib.Core.Bool.{Bool, true, false, cond}
 use mathlib.Core.List.{List}
 use mathlib.Core.Logic.{◌↔◌}
@@ -8,46 +9,36 @@ use native.Mathlib.Decide.{dec_lt}
 use native.Mathlib.Omega.{arith}
 use lib.Dec.{ltb}
 use lib.ListN.{length, replicate}
-use lib.IntN.{ℤ, pos}
+use lib.IntN.{ℤ}
 use lib.Signed.{lt_z}
 use Rattle.whole.proofs.Arith.{arithℤ}
 use Rattle.wiring.specs.Wiring.{HasWiring}
 use Rattle.wiring.specs.Fit.{lean_of, half}
-use Rattle.wiring.specs.Tracks.{rule_at, tracks_for}
+use Rattle.wiring.specs.Tracks.{rule_at}
 use Rattle.wiring.proofs.Serves.{rule_under, tracks_some}
 use Rattle.jumper.specs.Limits.{max_ladder, AcceptedOffset}
-use Rattle.jumper.specs.Refusals.{side_number, refusal_numbers}
-use Rattle.jumper.specs.Rows.{AcceptedRows, checked_numbers, unless_refused, or_else, check_rows}
+use Rattle.jumper.specs.Refusals.{refusal_numbers}
+use Rattle.jumper.specs.Rows.{AcceptedRows, Checked, checked_numbers, unless_refused, or_else, check_rows}
 use Rattle.jumper.specs.Asked.{check_tracks, check_offset, check_asked, AcceptedTracks}
 use Rattle.jumper.specs.Range.{whole_range, is_empty}
 use Rattle.jumper.specs.Span.{lowest_at, highest_at, range_of}
-use Rattle.jumper.specs.declared.refusal.Side.{Side}
 use Rattle.jumper.specs.declared.refusal.Refusal.{Refusal}
 use Rattle.jumper.specs.declared.refusal.Refusal.TheVariants.{NoOffset}
-use Rattle.jumper.specs.declared.refusal.Numbers.{Numbers}
 use Rattle.jumper.specs.declared.range.OffsetRange.{OffsetRange}
-use Rattle.jumper.specs.declared.rows.Checked.{Checked}
-use Rattle.jumper.specs.declared.rows.Checked.TheVariants.{Accepted, Refused}
 use Rattle.jumper.proofs.Accepted.{numbered}
 use Rattle.jumper.proofs.Wired.{wired_accepted, tracks_most}
 use Rattle.jumper.proofs.Checks.{Early, tracks_accepted, early_rows, early_tracks, early_shift, early_asked}
 use Rattle.fit.specs.Misfit.{misfit_of, no_fit, fit_of, FitAnswer}
-use Rattle.fit.specs.Least.{least_numbers, least_of, with_witness, least_answer, LeastAnswer}
+use Rattle.fit.specs.Least.{pair_of, side_of, least_numbers, least_of, with_witness, least_answer, LeastAnswer}
 use Rattle.fit.specs.Offsets.{offsets_numbers, offsets_answer, range_found, OffsetsAnswer}
 use Rattle.fit.specs.declared.misfit.Misfit.{Misfit}
-use Rattle.fit.specs.declared.misfit.Misfit.TheVariants.{None, At}
 use Rattle.fit.specs.declared.least.Least.{Least}
-use Rattle.fit.specs.declared.least.Least.TheVariants.{Straight, Tracks, Refused as NoLeast}
-use Rattle.fit.specs.declared.offsets.Offsets.{Offsets}
-use Rattle.fit.specs.declared.offsets.Offsets.TheVariants.{Range as Offered, Refused as NoRange}
 use Rattle.fit.proofs.Spans.{past_all, empty_range, some_range}
 use Rattle.best.specs.Halving.{levels}
-use Rattle.best.specs.Best.{best_numbers, best_answer, ladder_of, planned_of, room_or, BestAnswer}
-use Rattle.best.specs.declared.plan.Best.{Best}
-use Rattle.best.specs.declared.plan.Best.TheVariants.{Found, Refused as NoBest}
+use Rattle.best.specs.Best.{Best, best_numbers, best_answer, ladder_of, planned_of, room_or, BestAnswer}
 use Rattle.best.proofs.Levels.{one_level, more_levels}
 use Rattle.best.proofs.Bests.{ladder_length}
-use Rattle.plan.specs.Plan.{planned_with, fit_plan, least_plan, range_plan, plan_of, Asks, Meetable, Unfit, Offsetless, Names, PlanAnswer}
+use Rattle.plan.specs.Plan.{fit_plan, least_plan, range_plan, plan_of, Asks, Meetable, Unfit, Offsetless, Names, PlanAnswer}
 use Rattle.plan.proofs.Known.{Known, known_fit, known_least, known_range, known_best}
 use Rattle.plan.specs.declared.wish.Wish.{Wish}
 use Rattle.plan.specs.declared.wish.Wish.TheVariants.{Fit, Least as Leastwise, Range, Best as Bestwise}
@@ -57,49 +48,44 @@ never_above : (n k : ℕ) → n < k → (n ≡ k) ↔ ⊥
 never_above n k h = ((λ e. omega arith), (λ z. absurd z))
 
 -- WITH WHICH NUMBERS A WISH IS REFUSED. A least separation there always is: its refusals are those of the checks
-least_early : (a b : List ℤ) (d : ℤ) (r : Refusal) → NoLeast r ≡ least_answer a b d → (refusal_numbers r).refusal ≤ 7
-least_early a b d r e =
-    let s = least_of (lean_of a) (lean_of b) d (length a) in
-    go (check_offset a b d) (early_shift a b d) s (misfit_of a b (s - 1) d) (ap (λ (l : Least). (least_numbers l).refusal) e)
+least_early : (a b : List ℤ) (d : ℤ) (r : Refusal) → Err r ≡ least_answer a b d → (refusal_numbers r).refusal ≤ 7
+least_early a b d r e = go (check_offset a b d) (early_shift a b d) _ (ap (λ (l : Result Least Refusal). (least_numbers l).refusal) e)
   where
-    go : (c : Checked) → Early 7 c → (s : ℕ) (m : Misfit) → (refusal_numbers r).refusal ≡ (least_numbers (unless_refused c NoLeast (with_witness s m))).refusal → (refusal_numbers r).refusal ≤ 7
-    go (Refused q) l s m e = omega arith
-    go Accepted l zero m e = omega arith
-    go Accepted l (suc s) None e = omega arith
-    go Accepted l (suc s) (At i k) e = omega arith
+    go : (c : Checked) → Early 7 c → (l : Least) → (refusal_numbers r).refusal ≡ (least_numbers (unless_refused c Err (Ok l))).refusal → (refusal_numbers r).refusal ≤ 7
+    go (Err q) h l e = omega arith
+    go (Ok u) h l e = omega arith
 
--- and one above 0 has a witness
-least_some : (a b : List ℤ) (d : ℤ) (t i : ℕ) (side : Side) → Tracks t i side ≡ least_answer a b d → t ≡ 0 → ⊥
-least_some a b d t i side e z =
+-- and one of 0 has no witness
+least_straight : (a b : List ℤ) (d : ℤ) (l : Least) → Ok l ≡ least_answer a b d → l.separation ≡ 0 → (pair_of l.witness ≡ 0) × (side_of l.witness ≡ 0)
+least_straight a b d l e z =
     let s = least_of (lean_of a) (lean_of b) d (length a) in
     go (check_offset a b d) s (misfit_of a b (s - 1) d) e
   where
-    go : (c : Checked) (s : ℕ) (m : Misfit) → Tracks t i side ≡ unless_refused c NoLeast (with_witness s m) → ⊥
-    go (Refused q) s m e = let f : ◌≡◌ {A = ℕ} 0 1 = cc in omega arith
-    go Accepted zero m e = let f : ◌≡◌ {A = ℕ} 0 1 = cc in omega arith
-    go Accepted (suc s) None e = let f : ◌≡◌ {A = ℕ} 0 1 = cc in omega arith
-    go Accepted (suc s) (At j k) e = let f : t ≡ tracks_for (suc s) = cc in omega (arith, tracks_some (suc s) (omega arith))
+    go : (c : Checked) (s : ℕ) (m : Option Misfit) → Ok l ≡ unless_refused c Err (Ok (with_witness s m)) → (pair_of l.witness ≡ 0) × (side_of l.witness ≡ 0)
+    go (Err q) s m e = cc
+    go (Ok u) zero m e = let f : l ≡ with_witness zero m = cc in rw f (refl, refl)
+    go (Ok u) (suc s) m e = let f : l ≡ with_witness (suc s) m = cc in absurd (omega (arith, ap (λ (k : Least). k.separation) f, tracks_some (suc s) (omega arith)))
 
 -- and so there is a best one: its refusals are those of the rows, and BUFFER
-best_early : (a b : List ℤ) (before : List ℕ) (r : Refusal) → NoBest r ≡ best_answer a b before → (refusal_numbers r).refusal ≤ 9
+best_early : (a b : List ℤ) (before : List ℕ) (r : Refusal) → Err r ≡ best_answer a b before → (refusal_numbers r).refusal ≤ 9
 best_early a b before r e = go (check_rows a b) (early_rows a b) (ltb (length before) (length (ladder_of a b))) (ap (λ (q : Best). (best_numbers q).refusal) e)
   where
-    go : (c : Checked) → Early 5 c → (t : Bool) → (refusal_numbers r).refusal ≡ (best_numbers (unless_refused c NoBest (room_or t (planned_of a b)))).refusal → (refusal_numbers r).refusal ≤ 9
-    go (Refused q) l t e = omega arith
-    go Accepted l true e = omega arith
-    go Accepted l false e = omega arith
+    go : (c : Checked) → Early 5 c → (t : Bool) → (refusal_numbers r).refusal ≡ (best_numbers (unless_refused c Err (room_or t (planned_of a b)))).refusal → (refusal_numbers r).refusal ≤ 9
+    go (Err q) l t e = omega arith
+    go (Ok u) l true e = omega arith
+    go (Ok u) l false e = omega arith
 
 -- a separation and an offset are refused with at most 10; a separation alone never with 10
-fit_early : (a b : List ℤ) (s : ℕ) (d : ℤ) (r : Refusal) → Refused r ≡ fit_of a b s d → (refusal_numbers r).refusal ≤ 10
+fit_early : (a b : List ℤ) (s : ℕ) (d : ℤ) (r : Refusal) → Err r ≡ fit_of a b s d → (refusal_numbers r).refusal ≤ 10
 fit_early a b s d r e = go (check_asked a b s d) (early_asked a b s d) (misfit_of a b (rule_at s) d) (ap (λ (c : Checked). (checked_numbers c).refusal) e)
   where
-    go : (c : Checked) → Early 7 c → (m : Misfit) → (refusal_numbers r).refusal ≡ (checked_numbers (or_else c (no_fit m))).refusal → (refusal_numbers r).refusal ≤ 10
-    go (Refused q) l m e = omega arith
-    go Accepted l None e = omega arith
-    go Accepted l (At i k) e = omega arith
+    go : (c : Checked) → Early 7 c → (m : Option Misfit) → (refusal_numbers r).refusal ≡ (checked_numbers (or_else c (no_fit m))).refusal → (refusal_numbers r).refusal ≤ 10
+    go (Err q) l m e = omega arith
+    go (Ok u) l None e = omega arith
+    go (Ok u) l (Some m) e = omega arith
 
-range_early : (a b : List ℤ) (s : ℕ) (r : Refusal) → NoRange r ≡ offsets_answer a b s → (refusal_numbers r).refusal ≡ 10 → ⊥
-range_early a b s r e z = go (check_tracks a b s) (early_tracks a b s) (ltb (rule_at s) (length a)) (is_empty o) (ap (λ (q : Offsets). (offsets_numbers q).refusal) e)
+range_early : (a b : List ℤ) (s : ℕ) (r : Refusal) → Err r ≡ offsets_answer a b s → (refusal_numbers r).refusal ≡ 10 → ⊥
+range_early a b s r e z = go (check_tracks a b s) (early_tracks a b s) (ltb (rule_at s) (length a)) (is_empty o) (ap (λ (q : Result OffsetRange Refusal). (offsets_numbers q).refusal) e)
   where
     o : OffsetRange
     o = range_of (length a) (lean_of a) (lean_of b) (rule_at s)
@@ -108,18 +94,18 @@ range_early a b s r e z = go (check_tracks a b s) (early_tracks a b s) (ltb (rul
     places = NoOffset (lowest_at (length a) (lean_of a) (lean_of b) (rule_at s)) (highest_at (length a) (lean_of a) (lean_of b) (rule_at s))
 
     go : (c : Checked) → Early 6 c → (t u : Bool)
-        → (refusal_numbers r).refusal ≡ (offsets_numbers (unless_refused c NoRange (cond t (cond u (NoRange places) (Offered o)) (Offered whole_range)))).refusal → ⊥
-    go (Refused q) l t u e = omega arith
-    go Accepted l true true e = omega arith
-    go Accepted l true false e = omega arith
-    go Accepted l false u e = omega arith
+        → (refusal_numbers r).refusal ≡ (offsets_numbers (unless_refused c Err (cond t (cond u (Err places) (Ok o)) (Ok whole_range)))).refusal → ⊥
+    go (Err q) l t u e = omega arith
+    go (Ok u) l true true e = omega arith
+    go (Ok u) l true false e = omega arith
+    go (Ok v) l false u e = omega arith
 
 -- refused although the separation is accepted: no offset fits
-range_never : (a b : List ℤ) (s : ℕ) (r : Refusal) → NoRange r ≡ offsets_answer a b s → AcceptedTracks a b s → (refusal_numbers r).refusal ≡ 11
+range_never : (a b : List ℤ) (s : ℕ) (r : Refusal) → Err r ≡ offsets_answer a b s → AcceptedTracks a b s → (refusal_numbers r).refusal ≡ 11
 range_never a b s r e t = go (dec_lt (rule_at s) (length a))
   where
-    number : (q : Offsets) → range_found (length a) (lean_of a) (lean_of b) (rule_at s) ≡ q → (refusal_numbers r).refusal ≡ (offsets_numbers q).refusal
-    number q f = ap (λ (o : Offsets). (offsets_numbers o).refusal) (rw (tracks_accepted a b s t) at e ∙ f)
+    number : (q : Result OffsetRange Refusal) → range_found (length a) (lean_of a) (lean_of b) (rule_at s) ≡ q → (refusal_numbers r).refusal ≡ (offsets_numbers q).refusal
+    number q f = ap (λ (o : Result OffsetRange Refusal). (offsets_numbers o).refusal) (rw (tracks_accepted a b s t) at e ∙ f)
 
     tested : rule_at s < length a → (u : Bool) → lt_z (range_of (length a) (lean_of a) (lean_of b) (rule_at s)).high (range_of (length a) (lean_of a) (lean_of b) (rule_at s)).low ≡ u → (refusal_numbers r).refusal ≡ 11
     tested l true f = number _ (empty_range (length a) (lean_of a) (lean_of b) (rule_at s) l f)
@@ -145,10 +131,6 @@ levels_few (suc k) m l h = go (dec_lt 1 m) (levels_few k (half m))
 ladder_room : (a b : List ℤ) → AcceptedRows a b → length (ladder_of a b) ≤ max_ladder
 ladder_room a b h = omega (arith, ladder_length (length a) (lean_of a) (lean_of b) h.some, levels_few 11 (length a) h.some h.few)
 
--- the numbers of a least separation
-abbrev found_least : (s i k : ℕ) → Numbers
-found_least s i k = record { refusal = 0; place = 0; second = 0; separation = s; lowest = pos 0; highest = pos 0; pair = i; side = k; count = 0 }
-
 module _ (a b : List ℤ) where
   -- a refusal: what is asked isn't accepted, or no wiring meets it
   refused_plan : (w : Wish) (r : Refusal) → refusal_numbers r ≡ plan_of w a b → (Asks w a b → Meetable w a b → (refusal_numbers r).refusal ≡ 0)
@@ -170,7 +152,7 @@ module _ (a b : List ℤ) where
       }
 
   pub fit_plan_lem : (s : ℕ) (d : ℤ) (c : Checked) → FitAnswer a b s d c → PlanAnswer (Fit s d) a b (fit_plan s d c)
-  fit_plan_lem s d Accepted h =
+  fit_plan_lem s d (Ok tt) h =
       let w = h.fits.0 refl in
       record {
         answer = ap (fit_plan s d) h.answer;
@@ -185,22 +167,25 @@ module _ (a b : List ℤ) where
         known = omega arith;
         equal = λ e z. omega arith;
       }
-  fit_plan_lem s d (Refused r) h =
+  fit_plan_lem s d (Err r) h =
       refused_plan (Fit s d) r (ap (fit_plan s d) h.answer) (λ k w. h.fits.1 (k, w)) h.prevents
       (never_above _ 11 (omega (arith, fit_early a b s d r h.answer))) h.witness
       (rw (← h.answer) at (known_fit a b s d))
 
-  -- a least separation s that was found, with its witness
-  least_found : (d : ℤ) (l : Least) (s i k : ℕ) → least_plan d l ≡ planned_with s d d i k 0 → least_numbers l ≡ found_least s i k → (s ≡ 0 → (i ≡ 0) × (k ≡ 0))
-      → LeastAnswer a b d l → PlanAnswer (Leastwise d) a b (planned_with s d d i k 0)
-  least_found d l s i k f e o h =
-      let g = (rw e at h.accepts).0 refl in
-      let within = (rw e at h.within) refl in
-      let fits = (rw e at h.fits) refl in
+  pub least_plan_lem : (d : ℤ) (l : Result Least Refusal) → LeastAnswer a b d l → PlanAnswer (Leastwise d) a b (least_plan d l)
+  least_plan_lem d (Err r) h =
+      refused_plan (Leastwise d) r (ap (least_plan d) h.answer) (λ k w. h.accepts.1 k)
+      (never_above _ 10 (omega (arith, least_early a b d r h.answer)))
+      (never_above _ 11 (omega (arith, least_early a b d r h.answer))) tt
+      (rw (← h.answer) at (known_least a b d))
+  least_plan_lem d (Ok l) h =
+      let g = h.accepts.0 refl in
+      let within = h.within refl in
+      let fits = h.fits refl in
       record {
-        answer = sym f ∙ ap (least_plan d) h.answer;
+        answer = ap (least_plan d) h.answer;
         accepts = ((λ z. (g, tt)), (λ w. refl));
-        means = λ z. record { named = refl; within = within; fits = fits; least = (rw e at h.least) refl; witness = (rw e at h.witness) refl; straight = o };
+        means = λ z. record { named = refl; within = within; fits = fits; least = h.least refl; witness = h.witness refl; straight = least_straight a b d l h.answer };
         prevents = never_above 0 10 (omega arith);
         none = never_above 0 11 (omega arith);
         names = tt;
@@ -211,21 +196,12 @@ module _ (a b : List ℤ) where
         equal = λ e z. omega arith;
       }
 
-  pub least_plan_lem : (d : ℤ) (l : Least) → LeastAnswer a b d l → PlanAnswer (Leastwise d) a b (least_plan d l)
-  least_plan_lem d (NoLeast r) h =
-      refused_plan (Leastwise d) r (ap (least_plan d) h.answer) (λ k w. h.accepts.1 k)
-      (never_above _ 10 (omega (arith, least_early a b d r h.answer)))
-      (never_above _ 11 (omega (arith, least_early a b d r h.answer))) tt
-      (rw (← h.answer) at (known_least a b d))
-  least_plan_lem d Straight h = least_found d Straight 0 0 0 refl refl (λ z. (refl, refl)) h
-  least_plan_lem d (Tracks s i side) h = least_found d (Tracks s i side) s i (side_number side) refl refl (λ z. absurd (least_some a b d s i side h.answer z)) h
-
-  pub range_plan_lem : (s : ℕ) (q : Offsets) → OffsetsAnswer a b s q → PlanAnswer (Range s) a b (range_plan s q)
-  range_plan_lem s (NoRange r) h =
+  pub range_plan_lem : (s : ℕ) (q : Result OffsetRange Refusal) → OffsetsAnswer a b s q → PlanAnswer (Range s) a b (range_plan s q)
+  range_plan_lem s (Err r) h =
       refused_plan (Range s) r (ap (range_plan s) h.answer) (λ k w. absurd ((h.none.0 (range_never a b s r h.answer k)).1 w.0 w.1))
       ((λ z. range_early a b s r h.answer z), (λ z. absurd z)) h.none h.places
       (rw (← h.answer) at (known_range a b s))
-  range_plan_lem s (Offered r) h =
+  range_plan_lem s (Ok r) h =
       record {
         answer = ap (range_plan s) h.answer;
         accepts = ((λ z. (k, (r.low, fits))), (λ w. refl));
@@ -255,12 +231,12 @@ module _ (a b : List ℤ) where
       accepted (no l) = let e = (h.every refl (omega arith)).0 in rw (ap (λ (o : OffsetRange). o.low) e) (record { low = omega arithℤ; high = omega arithℤ })
 
   pub best_plan_lem : (before after : List ℕ) (q : Best) → before ≡ replicate max_ladder 0 → BestAnswer a b before after q → PlanAnswer Bestwise a b (best_numbers q)
-  best_plan_lem before after (NoBest r) e h =
+  best_plan_lem before after (Err r) e h =
       refused_plan Bestwise r (ap best_numbers h.answer ∙ ap (λ (l : List ℕ). best_numbers (best_answer a b l)) e) (λ k w. h.accepts.1 (k, rw e (ladder_room a b k)))
       (never_above _ 10 (omega (arith, best_early a b before r h.answer)))
       (never_above _ 11 (omega (arith, best_early a b before r h.answer))) tt
       (rw (← h.answer) at (known_best a b before))
-  best_plan_lem before after (Found p) e h =
+  best_plan_lem before after (Ok p) e h =
       let k = (h.accepts.0 refl).0 in
       let w = (h.exactly refl p.range.low).1 (record { low = omega arithℤ; high = h.some refl }) in
       record {

@@ -1,23 +1,19 @@
 -- The answer to a wish for two rows, in all its numbers, and what it means (01, "Form" and "Sheets"; demands 2 and 3). The form and the sheet cite it.
-use Rattle.std.specs.Prelude.{◌≡◌, List, ◌↔◌, ℕ, ◌-◌, ◌*◌, ◌≤◌, ◌<◌, length, replicate, ℤ, ◌≤ℤ◌}
+use Rattle.std.specs.Prelude.{Result, Ok, Err, ◌≡◌, List, ◌↔◌, ℕ, ◌-◌, ◌*◌, ◌≤◌, ◌<◌, length, replicate, ℤ, ◌≤ℤ◌}
 use Rattle.wiring.specs.Wiring.{HasWiring}
 use Rattle.wiring.specs.Tracks.{rule_at, tracks_for}
 use Rattle.jumper.specs.Limits.{max_ladder}
-use Rattle.jumper.specs.Refusals.{side_number, refusal_numbers}
-use Rattle.jumper.specs.Rows.{AcceptedRows}
+use Rattle.jumper.specs.Refusals.{refusal_numbers}
+use Rattle.jumper.specs.Rows.{AcceptedRows, Checked}
 use Rattle.jumper.specs.Asked.{AcceptedTracks, AcceptedShift, Asked}
 use Rattle.jumper.specs.Range.{Within, range_named, whole_range}
 use Rattle.jumper.specs.declared.refusal.Numbers.{Numbers}
 use Rattle.jumper.specs.declared.refusal.Refusal.{Refusal}
-use Rattle.jumper.specs.declared.rows.Checked.{Checked}
-use Rattle.jumper.specs.declared.rows.Checked.TheVariants.{Accepted, Refused}
+use Rattle.jumper.specs.declared.range.OffsetRange.{OffsetRange}
 use Rattle.fit.specs.Misfit.{fit_of, Witness}
-use Rattle.fit.specs.Least.{least_answer}
+use Rattle.fit.specs.Least.{pair_of, side_of, least_answer}
 use Rattle.fit.specs.Offsets.{offsets_answer, FirstLow, FirstHigh}
 use Rattle.fit.specs.declared.least.Least.{Least}
-use Rattle.fit.specs.declared.least.Least.TheVariants.{Straight, Tracks, Refused as NoLeast}
-use Rattle.fit.specs.declared.offsets.Offsets.{Offsets}
-use Rattle.fit.specs.declared.offsets.Offsets.TheVariants.{Range as Offered, Refused as NoRange}
 use Rattle.best.specs.Halving.{max_read_a_pair, ladder_count}
 use Rattle.best.specs.Best.{best_numbers, best_answer, ladder_of}
 use Rattle.plan.specs.declared.wish.Wish.{Wish}
@@ -29,18 +25,17 @@ planned_with s l h i k c = record { refusal = 0; place = 0; second = 0; separati
 
 -- "A wish with an offset gives it as lowest and highest."
 abbrev pub fit_plan : ℕ → ℤ → Checked → Numbers
-fit_plan s d Accepted = planned_with s d d 0 0 0
-fit_plan s d (Refused r) = refusal_numbers r
+fit_plan s d (Ok u) = planned_with s d d 0 0 0
+fit_plan s d (Err r) = refusal_numbers r
 
 -- "Pair and side are the witness of NOFIT, or for a least separation above 0 at a given offset the witness at one track fewer; otherwise 0."
-abbrev pub least_plan : ℤ → Least → Numbers
-least_plan d Straight = planned_with 0 d d 0 0 0
-least_plan d (Tracks s i k) = planned_with s d d i (side_number k) 0
-least_plan d (NoLeast r) = refusal_numbers r
+abbrev pub least_plan : ℤ → Result Least Refusal → Numbers
+least_plan d (Ok l) = planned_with l.separation d d (pair_of l.witness) (side_of l.witness) 0
+least_plan d (Err r) = refusal_numbers r
 
-abbrev pub range_plan : ℕ → Offsets → Numbers
-range_plan s (Offered r) = planned_with s r.low r.high 0 0 0
-range_plan s (NoRange r) = refusal_numbers r
+abbrev pub range_plan : ℕ → Result OffsetRange Refusal → Numbers
+range_plan s (Ok r) = planned_with s r.low r.high 0 0 0
+range_plan s (Err r) = refusal_numbers r
 
 -- the best call, with room for the longest ladder
 abbrev pub best_plan : (a b : List ℤ) → Numbers

@@ -1,6 +1,6 @@
 -- A wish (01, "Form"): "A wish is separation or "least", and offset or "best"." A record holds it as two numbers; the marks are the sheet's, FFFF
 -- and 80000000. Any two numbers mean a wish, so a damaged record gets an answer too.
-use Rattle.std.specs.Prelude.{Bool, true, false, ℕ, eqb, ℤ, negsuc}
+use Rattle.std.specs.Prelude.{cond, ℕ, eqb, ℤ, negsuc}
 use Rattle.std.specs.Int.Signed.{le_z}
 use Rattle.plan.specs.declared.wish.Wish.{Wish}
 use Rattle.plan.specs.declared.wish.Wish.TheVariants.{Fit, Least, Range, Best}
@@ -13,12 +13,8 @@ least_mark = 65535
 abbrev pub best_mark : ℤ
 best_mark = negsuc 2147483647
 
-abbrev pub pick_wish : Bool → Wish → Wish → Wish
-pick_wish true w v = w
-pick_wish false w v = v
-
 abbrev pub wish_of : ℕ → ℤ → Wish
 wish_of s d =
-    pick_wish (eqb s least_mark)
-    (pick_wish (le_z d best_mark) Best (Least d))
-    (pick_wish (le_z d best_mark) (Range s) (Fit s d))
+    cond (eqb s least_mark)
+    (cond (le_z d best_mark) Best (Least d))
+    (cond (le_z d best_mark) (Range s) (Fit s d))

@@ -1,7 +1,7 @@
+use Rattle.std.specs.Prelude.{Ok, Err, Option, Some, None}
 -- WHAT THE CALLS PROMISE, from what their parts find; and the laws that join them: drawing all is drawing each, and what is drawn is accepted.
 -- Sections: the same wires; the checker; an answer of fit; one wire; all wires; the laws that join them.
-use mathlib.Core.Path.{◌≡◌, refl, sym, ◌∙◌}
-use mathlib.Core.Bool.{true, false, true≢false}
+use mathlib.Core.Path.{◌≡◌, refl, sym, ap, ◌∙◌}
 use mathlib.Core.List.{List}
 use mathlib.Core.Logic.{◌⊎◌, inl, inr, ◌↔◌}
 use Prim.Native.Nat.{ℕ, zero, suc, ◌+◌, ◌*◌, ◌≤◌, ◌<◌}
@@ -18,18 +18,18 @@ use Rattle.wiring.proofs.Theorem.{shifted_rising, drawing_legal}
 use Rattle.jumper.specs.Refusals.{refusal_numbers}
 use Rattle.jumper.specs.Rows.{AcceptedRows, checked_numbers, or_else}
 use Rattle.jumper.specs.Asked.{check_asked, Asked}
+use Rattle.jumper.specs.declared.asked.Question.{Question}
 use Rattle.jumper.specs.declared.refusal.Refusal.{Refusal}
-use Rattle.jumper.specs.declared.refusal.Refusal.TheVariants.{Wire as NoWire, Buffer, BadWire}
-use Rattle.jumper.specs.declared.rows.Checked.{Checked}
-use Rattle.jumper.specs.declared.rows.Checked.TheVariants.{Accepted, Refused}
+use Rattle.jumper.specs.declared.refusal.Refusal.TheVariants.{Wire as NoWire, Buffer, NoFit, BadWire}
+use Rattle.jumper.specs.declared.refusal.Side.{Side}
+use Rattle.jumper.specs.Rows.{Checked}
 use Rattle.jumper.proofs.Accepted.{numbered, refused_not, accepted_of}
 use Rattle.jumper.proofs.Checks.{accepted_asked, asked_accepted, early_asked}
 use Rattle.fit.specs.Misfit.{misfit_of, no_fit, FitAnswer}
 use Rattle.fit.specs.declared.misfit.Misfit.{Misfit}
-use Rattle.fit.specs.declared.misfit.Misfit.TheVariants.{None, At}
 use Rattle.jumper.proofs.Wired.{wiring_exactly}
 use Rattle.route.specs.Table.{column_in, columns, wires, LegalRoute}
-use Rattle.route.specs.Draw.{drawn_of, drawn_wires, comes_first, wire_drawn, all_drawn, DrawWireAnswer, DrawAllAnswer}
+use Rattle.route.specs.Draw.{drawn_of, drawn_wires, wire_drawn, all_drawn, DrawWireAnswer, DrawAllAnswer}
 use Rattle.route.specs.Check.{NoFault, FirstFault, first_fault, route_checked, RouteCheck}
 use Rattle.route.proofs.Places.{columns_length, columns_at, wires_length, wires_at, wires_part}
 use Rattle.route.proofs.Faults.{searched}
@@ -59,28 +59,33 @@ legal_same n s a c e f g l =
 top_rising : {a b : List ℤ} → AcceptedRows a b → (d : ℤ) → Rising (length a) (top_pad b d)
 top_rising {a} {b} r d = shifted_rising {b = pad b} d (rw r.equal r.top.rising)
 
+-- a question is accepted
+pub question_asked : (q : Question) {a b : List ℤ} {s : ℕ} {d : ℤ} → (q.rows.bottom.now ≡ a) × (q.rows.top.now ≡ b) × (q.separation ≡ s) × (q.offset ≡ d)
+    → check_asked a b s d ≡ Ok tt
+question_asked q e = rw (← e.0, ← e.1, ← e.2, ← e.3) (asked_accepted _ _ _ _ (record { rows = q.rows.accepted; tracks = q.tracks; offset = q.shift }))
+
 -- THE CHECKER
 module _ (a b : List ℤ) (s : ℕ) (d : ℤ) (table : List ℤ) where
   reading : (r : Checked) → r ≡ route_checked a b s d table → (other : List ℤ) → take (length a * (s + 1)) other ≡ take (length a * (s + 1)) table → r ≡ route_checked a b s d other
   reading r e other agree = e ∙ reads_only a b s d table other agree
 
-  pub check_early : (r : Refusal) → check_asked a b s d ≡ Refused r → RouteCheck a b s d table (Refused r)
+  pub check_early : (r : Refusal) → check_asked a b s d ≡ Err r → RouteCheck a b s d table (Err r)
   check_early r e =
       let l = rw e at (early_asked a b s d) in
       record {
         answer = sym (rw e);
-        reads = reading (Refused r) (sym (rw e));
+        reads = reading (Err r) (sym (rw e));
         accepts = ((λ z. absurd (numbered r z)), (λ z. absurd (refused_not r (sym e ∙ asked_accepted a b s d z.0))));
         refuses = ((λ z. absurd (omega arith)), (λ z. absurd (refused_not r (sym e ∙ asked_accepted a b s d z.0))));
         fault = λ z. absurd (omega arith);
       }
 
-  module _ (e : check_asked a b s d ≡ Accepted) where
-    pub check_short : length table < length a * (s + 1) → RouteCheck a b s d table (Refused Buffer)
+  module _ (e : check_asked a b s d ≡ Ok tt) where
+    pub check_short : length table < length a * (s + 1) → RouteCheck a b s d table (Err Buffer)
     check_short h =
         record {
           answer = sym (rw (e, lt-ltb (length table) (length a * (s + 1)) h));
-          reads = reading (Refused Buffer) (sym (rw (e, lt-ltb (length table) (length a * (s + 1)) h)));
+          reads = reading (Err Buffer) (sym (rw (e, lt-ltb (length table) (length a * (s + 1)) h)));
           accepts = ((λ z. absurd (omega arith)), (λ z. absurd (omega (arith, z.1))));
           refuses = ((λ z. absurd (omega arith)), (λ z. absurd (omega (arith, z.1))));
           fault = λ z. absurd (omega arith);
@@ -98,25 +103,25 @@ module _ (a b : List ℤ) (s : ℕ) (d : ℤ) (table : List ℤ) where
         exact : NoFault (length a) s (pad a) (top_pad b d) (column_in table s) ↔ LegalRoute a b s d table
         exact = faultless_legal (length a) s (pad a) (top_pad b d) (column_in table s) k.rows.bottom.rising (top_rising k.rows d)
 
-        go : ((first_fault a b s d table ≡ Accepted) × NoFault (length a) s (pad a) (top_pad b d) (column_in table s)) ⊎ ((i : ℕ) × (t : ℕ) × (first_fault a b s d table ≡ Refused (BadWire i t)) × FirstFault (length a) s (pad a) (top_pad b d) (column_in table s) i t)
+        go : ((first_fault a b s d table ≡ Ok tt) × NoFault (length a) s (pad a) (top_pad b d) (column_in table s)) ⊎ ((i : ℕ) × (t : ℕ) × (first_fault a b s d table ≡ Err (BadWire i t)) × FirstFault (length a) s (pad a) (top_pad b d) (column_in table s) i t)
             → RouteCheck a b s d table r
         go (inl g) =
-            let p : r ≡ Accepted = f ∙ g.0 in
+            let p : r ≡ Ok tt = f ∙ g.0 in
             rw p
             (record {
               answer = rw p at answer;
-              reads = reading Accepted (rw p at answer);
+              reads = reading (Ok tt) (rw p at answer);
               accepts = ((λ z. (k, h, exact.0 g.1)), (λ z. refl));
               refuses = ((λ z. absurd (omega arith)), (λ z. absurd (z.2 (exact.0 g.1))));
               fault = λ z. absurd (omega arith);
             })
         go (inr g) =
-            let p : r ≡ Refused (BadWire g.0 g.1) = f ∙ g.2 in
+            let p : r ≡ Err (BadWire g.0 g.1) = f ∙ g.2 in
             let bad : LegalRoute a b s d table → ⊥ = λ l. exact.1 l g.0 g.3.wire g.1 g.3.track g.3.fault in
             rw p
             (record {
               answer = rw p at answer;
-              reads = reading (Refused (BadWire g.0 g.1)) (rw p at answer);
+              reads = reading (Err (BadWire g.0 g.1)) (rw p at answer);
               accepts = ((λ z. absurd (omega arith)), (λ z. absurd (bad z.2)));
               refuses = ((λ z. (k, h, bad)), (λ z. refl));
               fault = λ z. g.3;
@@ -127,27 +132,29 @@ drawn_legal : {a b : List ℤ} → AcceptedRows a b → (s : ℕ) (d : ℤ) → 
 drawn_legal {a} {b} r s d w = (drawing_legal (length a) s (pad a) (pad b) d r.bottom.rising (rw r.equal r.top.rising)).1 ((wiring_exactly r s d).0 w)
 
 -- AN ANSWER OF FIT tells whether what is asked is refused: 1 to 7 are the check's, and the only refusal of its own is NOFIT
-module _ (a b : List ℤ) (s : ℕ) (d : ℤ) (r : Checked) (f : FitAnswer a b s d r) where
-  refused_by : (v : Checked) (m : Misfit) → check_asked a b s d ≡ v → r ≡ or_else v (no_fit m) → comes_first r ≡ true → (q : Refusal) × (r ≡ Refused q) × (check_asked a b s d ≡ Refused q)
-  refused_by Accepted None e g u = absurd (true≢false (sym u ∙ rw g))
-  refused_by Accepted (At i k) e g u = absurd (true≢false (sym u ∙ rw g))
-  refused_by (Refused q) m e g u = (q, g, e)
+module _ (a b : List ℤ) (s : ℕ) (d : ℤ) where
+  pub misfit_asked : (r : Refusal) (i : ℕ) (k : Side) → FitAnswer a b s d (Err r) → r ≡ NoFit i k → check_asked a b s d ≡ Ok tt
+  misfit_asked r i k f e = go (check_asked a b s d) (misfit_of a b (rule_at s) d) refl f.answer
+    where
+      go : (v : Checked) (m : Option Misfit) → check_asked a b s d ≡ v → Err r ≡ or_else v (no_fit m) → v ≡ Ok tt
+      go (Ok u) m g h = refl
+      go (Err q) m g h =
+          let l = rw g at (early_asked a b s d) in
+          let x : Err (NoFit i k) ≡ Err q = rw (← e) h in
+          let n : 10 ≡ (refusal_numbers q).refusal = ap (λ (y : Checked). (checked_numbers y).refusal) x in
+          absurd (omega arith)
 
-  pub unasked : comes_first r ≡ true → (q : Refusal) × (r ≡ Refused q) × (check_asked a b s d ≡ Refused q)
-  unasked = refused_by (check_asked a b s d) (misfit_of a b (rule_at s) d) refl f.answer
-
-  accepted_by : (v : Checked) (m : Misfit) → check_asked a b s d ≡ v → r ≡ or_else v (no_fit m) → comes_first r ≡ false → check_asked a b s d ≡ Accepted
-  accepted_by Accepted m e g u = e
-  accepted_by (Refused q) m e g u =
-      let l = rw e at (early_asked a b s d) in
-      absurd (true≢false (sym (lt-ltb (refusal_numbers q).refusal 8 (omega arith)) ∙ (rw g at u)))
-
-  pub asked : comes_first r ≡ false → check_asked a b s d ≡ Accepted
-  asked = accepted_by (check_asked a b s d) (misfit_of a b (rule_at s) d) refl f.answer
+  pub early_refused : (r : Refusal) → FitAnswer a b s d (Err r) → ((i : ℕ) (k : Side) → r ≡ NoFit i k → ⊥) → check_asked a b s d ≡ Err r
+  early_refused r f not = go (check_asked a b s d) (misfit_of a b (rule_at s) d) f.answer
+    where
+      go : (v : Checked) (m : Option Misfit) → Err r ≡ or_else v (no_fit m) → v ≡ Err r
+      go (Ok u) None h = absurd (refused_not r h)
+      go (Ok u) (Some m) h = absurd (not m.pair m.side (cc))
+      go (Err q) m h = sym h
 
 -- ONE WIRE
 module _ (a b : List ℤ) (s : ℕ) (d : ℤ) (wire : ℕ) (out : List ℤ) where
-  pub wire_early : (r : Refusal) → check_asked a b s d ≡ Refused r → DrawWireAnswer a b s d wire out out (Refused r)
+  pub wire_early : (r : Refusal) → check_asked a b s d ≡ Err r → DrawWireAnswer a b s d wire out out (Err r)
   wire_early r e =
       let l = rw e at (early_asked a b s d) in
       let not : Asked a b s d → ⊥ = λ k. refused_not r (sym e ∙ asked_accepted a b s d k) in
@@ -163,8 +170,8 @@ module _ (a b : List ℤ) (s : ℕ) (d : ℤ) (wire : ℕ) (out : List ℤ) wher
         witness = λ z. absurd (omega arith);
       }
 
-  module _ (e : check_asked a b s d ≡ Accepted) where
-    pub wire_none : length a ≤ wire → DrawWireAnswer a b s d wire out out (Refused NoWire)
+  module _ (e : check_asked a b s d ≡ Ok tt) where
+    pub wire_none : length a ≤ wire → DrawWireAnswer a b s d wire out out (Err NoWire)
     wire_none h =
         record {
           answer = sym (rw (e, le-ltb wire (length a) h));
@@ -179,7 +186,7 @@ module _ (a b : List ℤ) (s : ℕ) (d : ℤ) (wire : ℕ) (out : List ℤ) wher
         }
 
     module _ (lt : wire < length a) where
-      pub wire_short : length out ≤ s → DrawWireAnswer a b s d wire out out (Refused Buffer)
+      pub wire_short : length out ≤ s → DrawWireAnswer a b s d wire out out (Err Buffer)
       wire_short h =
           let g : length out < s + 1 = omega arith in
           record {
@@ -195,7 +202,7 @@ module _ (a b : List ℤ) (s : ℕ) (d : ℤ) (wire : ℕ) (out : List ℤ) wher
           }
 
       module _ (room : s < length out) where
-        pub wire_misfit : (r : Refusal) → FitAnswer a b s d (Refused r) → DrawWireAnswer a b s d wire out out (Refused r)
+        pub wire_misfit : (r : Refusal) → FitAnswer a b s d (Err r) → DrawWireAnswer a b s d wire out out (Err r)
         wire_misfit r f =
             let g : s + 1 ≤ length out = omega arith in
             record {
@@ -210,7 +217,7 @@ module _ (a b : List ℤ) (s : ℕ) (d : ℤ) (wire : ℕ) (out : List ℤ) wher
               witness = f.witness;
             }
 
-        pub wire_done : (out' : List ℤ) → out' ≡ wire_drawn a b s d wire out → FitAnswer a b s d Accepted → DrawWireAnswer a b s d wire out out' Accepted
+        pub wire_done : (out' : List ℤ) → out' ≡ wire_drawn a b s d wire out → FitAnswer a b s d (Ok tt) → DrawWireAnswer a b s d wire out out' (Ok tt)
         wire_done out' h f =
             let g : s + 1 ≤ length out = omega arith in
             let k = f.fits.0 refl in
@@ -229,7 +236,7 @@ module _ (a b : List ℤ) (s : ℕ) (d : ℤ) (wire : ℕ) (out : List ℤ) wher
 
 -- ALL WIRES
 module _ (a b : List ℤ) (s : ℕ) (d : ℤ) (out : List ℤ) where
-  pub all_early : (r : Refusal) → check_asked a b s d ≡ Refused r → DrawAllAnswer a b s d out out (Refused r)
+  pub all_early : (r : Refusal) → check_asked a b s d ≡ Err r → DrawAllAnswer a b s d out out (Err r)
   all_early r e =
       let l = rw e at (early_asked a b s d) in
       let not : Asked a b s d → ⊥ = λ k. refused_not r (sym e ∙ asked_accepted a b s d k) in
@@ -244,8 +251,8 @@ module _ (a b : List ℤ) (s : ℕ) (d : ℤ) (out : List ℤ) where
         witness = λ z. absurd (omega arith);
       }
 
-  module _ (e : check_asked a b s d ≡ Accepted) where
-    pub all_short : length out < length a * (s + 1) → DrawAllAnswer a b s d out out (Refused Buffer)
+  module _ (e : check_asked a b s d ≡ Ok tt) where
+    pub all_short : length out < length a * (s + 1) → DrawAllAnswer a b s d out out (Err Buffer)
     all_short h =
         record {
           answer = sym (rw (e, lt-ltb (length out) (length a * (s + 1)) h));
@@ -259,7 +266,7 @@ module _ (a b : List ℤ) (s : ℕ) (d : ℤ) (out : List ℤ) where
         }
 
     module _ (room : length a * (s + 1) ≤ length out) where
-      pub all_misfit : (r : Refusal) → FitAnswer a b s d (Refused r) → DrawAllAnswer a b s d out out (Refused r)
+      pub all_misfit : (r : Refusal) → FitAnswer a b s d (Err r) → DrawAllAnswer a b s d out out (Err r)
       all_misfit r f =
           record {
             answer = rw (e, le-ltb (length out) (length a * (s + 1)) room) (rw e at f.answer);
@@ -272,7 +279,7 @@ module _ (a b : List ℤ) (s : ℕ) (d : ℤ) (out : List ℤ) where
             witness = f.witness;
           }
 
-      pub all_done_lem : (out' : List ℤ) → out' ≡ all_drawn a b s d out → FitAnswer a b s d Accepted → DrawAllAnswer a b s d out out' Accepted
+      pub all_done_lem : (out' : List ℤ) → out' ≡ all_drawn a b s d out → FitAnswer a b s d (Ok tt) → DrawAllAnswer a b s d out out' (Ok tt)
       all_done_lem out' h f =
           let k = f.fits.0 refl in
           let at : (i t : ℕ) → i < length a → t ≤ s → column_in out' s i t ≡ drawn_of a b d i t = λ i t g l. rw h (wires_at (drawn_of a b d) s (length a) i t (drop (length a * (s + 1)) out) g l) in
@@ -299,7 +306,7 @@ all_is_each {a} {b} {s} {d} {out} {out'} {own} {own'} {i} {r} {q} f g lt room Ow
 
     parts : (checked_numbers r).refusal ≡ 0 → take (s + 1) own' ≡ take (s + 1) (drop (i * (s + 1)) out')
     parts z =
-        let e : r ≡ Accepted = accepted_of r z in
+        let e : r ≡ Ok tt = accepted_of r z in
         let x : out' ≡ all_drawn a b s d out = rw e at f.buffer in
         let y : own' ≡ wire_drawn a b s d i own = rw (same ∙ e) at g.buffer in
         rw (x, y)
@@ -309,7 +316,7 @@ all_is_each {a} {b} {s} {d} {out} {out'} {own} {own'} {i} {r} {q} f g lt room Ow
 -- WHAT WE DRAW OUR CHECKER ACCEPTS
 pub drawn_accepted : {a b : List ℤ} {s : ℕ} {d : ℤ} {out out' : List ℤ} {r q : Checked} → DrawAllAnswer a b s d out out' r → RouteCheck a b s d out' q → (checked_numbers r).refusal ≡ 0 → (checked_numbers q).refusal ≡ 0
 drawn_accepted {a} {b} {s} {d} {out} {out'} {r} f g z =
-    let e : r ≡ Accepted = accepted_of r z in
+    let e : r ≡ Ok tt = accepted_of r z in
     let x : out' ≡ all_drawn a b s d out = rw e at f.buffer in
     let l = length-append (wires (drawn_of a b d) s (length a)) (drop (length a * (s + 1)) out) in
     let room : length a * (s + 1) ≤ length out' = rw x (omega (arith, l, wires_length (drawn_of a b d) s (length a))) in

@@ -1,7 +1,9 @@
 -- The tests of the checker say what they are to say, and the search finds the first fault, or none where there is none.
 -- Sections: what a test tells; the tests as the code meets them; the search, a step at a time; what it finds.
 use mathlib.Core.Path.{◌≡◌, refl, sym, ◌∙◌}
-use mathlib.Core.Bool.{Bool, true, false, cond}
+use mathlib.Core.Bool.{Bool, true, false, cond, true≢false}
+use Rattle.std.specs.Prelude.{Ok, Err, Option, Some, None, MatchOption}
+use Rattle.std.proofs.lemmas.Bool.{cases_order}
 use mathlib.Core.Logic.{◌⊎◌, inl, inr, ⊎_elim, ◌≢◌, ◌↔◌}
 use Prim.Native.Nat.{ℕ, zero, suc, ◌+◌, ◌-◌, ◌≤◌, ◌<◌}
 use native.Mathlib.Nat.{eq-or-lt_of_le}
@@ -18,10 +20,9 @@ use Rattle.jumper.specs.Rows.{pick, or_else}
 use Rattle.jumper.proofs.Accepted.{refused_not}
 use Rattle.jumper.specs.declared.refusal.Refusal.{Refusal}
 use Rattle.jumper.specs.declared.refusal.Refusal.TheVariants.{BadWire}
-use Rattle.jumper.specs.declared.rows.Checked.{Checked}
-use Rattle.jumper.specs.declared.rows.Checked.TheVariants.{Accepted, Refused}
+use Rattle.jumper.specs.Rows.{Checked}
 use Rattle.route.specs.Check.{rightmost, leftmost, WrongStart, WrongEnd, StepsAside, Touching, Fault, NoFault, FirstFault}
-use Rattle.route.specs.Check.{start_wrong, end_wrong, steps_aside, run_touches, fault_at, wire_fault, track_fault}
+use Rattle.route.specs.Check.{FirstWire, ends_wrong, start_wrong, end_wrong, steps_aside, run_touches, fault_at, wire_fault, track_fault}
 
 -- WHAT A TEST TELLS
 pub record Tells (t : Bool) (P : Type 0) : Type 0 where
@@ -53,19 +54,22 @@ differ_tells x y = go (lt_z x y) refl (lt_z y x) refl
     go false e true f = record { yes = λ h k. omega (arithℤ, true_lt y x f); no = λ h k. untrue (sym h) }
     go false e false f = record { yes = λ h. untrue h; no = λ h k. k (omega (arithℤ, false_lt x y e, false_lt y x f)) }
 
-pub start_tells : (a : ℕ → ℤ) (e : ℕ → ℕ → ℤ) (t i : ℕ) → Tells (start_wrong a e t i) (WrongStart a e t i)
+start_tells : (a : ℕ → ℤ) (e : ℕ → ℕ → ℤ) (t i : ℕ) → Tells (start_wrong a e t i) (WrongStart a e t i)
 unfolding start_wrong
 start_tells a e t i = also (eqb t 0) (equal_tells t 0) (differ_tells (e i 0) (a i))
 
-pub end_tells : (s : ℕ) (c : ℕ → ℤ) (e : ℕ → ℕ → ℤ) (t i : ℕ) → Tells (end_wrong s c e t i) (WrongEnd s c e t i)
+end_tells : (s : ℕ) (c : ℕ → ℤ) (e : ℕ → ℕ → ℤ) (t i : ℕ) → Tells (end_wrong s c e t i) (WrongEnd s c e t i)
 unfolding end_wrong
 end_tells s c e t i = also (eqb t s) (equal_tells t s) (differ_tells (e i s) (c i))
 
-pub aside_tells : (s : ℕ) (e : ℕ → ℕ → ℤ) (t i : ℕ) → Tells (steps_aside s e t i) (StepsAside s e t i)
+aside_tells : (s : ℕ) (e : ℕ → ℕ → ℤ) (t i : ℕ) → Tells (steps_aside s e t i) (StepsAside s e t i)
 unfolding steps_aside
 aside_tells s e t i =
     let r = also (eqb t 0) (equal_tells t 0) (also (ltb 0 s) (less_tells 0 s) (differ_tells (e i 1) (e i 0))) in
     record { yes = λ h. let f = r.yes h in (f.0, f.1.0, f.1.1); no = λ h f. r.no h (f.0, (f.1, f.2)) }
+
+pub ends_tell : (s : ℕ) (a c : ℕ → ℤ) (e : ℕ → ℕ → ℤ) (i : ℕ) → Tells (ends_wrong s a c e i) (WrongStart a e 0 i ⊎ WrongEnd s c e s i ⊎ StepsAside s e 0 i)
+ends_tell s a c e i = either (start_wrong a e 0 i) (start_tells a e 0 i) (either (end_wrong s c e s i) (end_tells s c e s i) (aside_tells s e 0 i))
 
 run_tells : (n s : ℕ) (e : ℕ → ℕ → ℤ) (t i : ℕ) → Tells (run_touches n s e t i) (Touching n s e t i)
 unfolding run_touches
@@ -147,7 +151,7 @@ module _ (n s : ℕ) (a c : ℕ → ℤ) (e : ℕ → ℕ → ℤ) (t i : ℕ) w
 
 -- THE SEARCH, a step at a time
 module _ (wrong : ℕ → Bool) (t n i : ℕ) where
-  pub wire_found : i < n → wrong i ≡ true → wire_fault wrong t i (n - i) ≡ Refused (BadWire i t)
+  pub wire_found : i < n → wrong i ≡ true → wire_fault wrong t i (n - i) ≡ Err (BadWire i t)
   unfolding wire_fault
   wire_found h k = let e : n - i ≡ suc (n - (i + 1)) = omega arith in rw (e, k)
 
@@ -155,28 +159,28 @@ module _ (wrong : ℕ → Bool) (t n i : ℕ) where
   unfolding wire_fault
   wire_next h k = let e : n - i ≡ suc (n - (i + 1)) = omega arith in rw (e, k, add-one)
 
-  pub wire_done : n ≤ i → wire_fault wrong t i (n - i) ≡ Accepted
+  pub wire_done : n ≤ i → wire_fault wrong t i (n - i) ≡ Ok tt
   unfolding wire_fault
   wire_done h = let e : n - i ≡ 0 = omega arith in rw e
 
 module _ (wrong : ℕ → ℕ → Bool) (n m t : ℕ) where
-  pub track_found : (r : Refusal) → t < m → wire_fault (wrong t) t 0 n ≡ Refused r → track_fault wrong n t (m - t) ≡ Refused r
+  pub track_found : (r : Refusal) → t < m → wire_fault (wrong t) t 0 n ≡ Err r → track_fault wrong n t (m - t) ≡ Err r
   unfolding track_fault
   track_found r h k = let e : m - t ≡ suc (m - (t + 1)) = omega arith in rw (e, k)
 
-  pub track_next : t < m → wire_fault (wrong t) t 0 n ≡ Accepted → track_fault wrong n t (m - t) ≡ track_fault wrong n (t + 1) (m - (t + 1))
+  pub track_next : t < m → wire_fault (wrong t) t 0 n ≡ Ok tt → track_fault wrong n t (m - t) ≡ track_fault wrong n (t + 1) (m - (t + 1))
   unfolding track_fault
   track_next h k = let e : m - t ≡ suc (m - (t + 1)) = omega arith in rw (e, k, add-one)
 
-  pub track_done : m ≤ t → track_fault wrong n t (m - t) ≡ Accepted
+  pub track_done : m ≤ t → track_fault wrong n t (m - t) ≡ Ok tt
   unfolding track_fault
   track_done h = let e : m - t ≡ 0 = omega arith in rw e
 
 -- WHAT IT FINDS: none, and then nothing is wrong; or the first
 abbrev WireSaid : (wrong : ℕ → Bool) (t i k : ℕ) → Checked → Type 0
 WireSaid wrong t i k r =
-    ((r ≡ Accepted) × ((j : ℕ) → i ≤ j → j < i + k → wrong j ≡ false))
-    ⊎ ((j : ℕ) × (r ≡ Refused (BadWire j t)) × (j < i + k) × (wrong j ≡ true) × ((l : ℕ) → i ≤ l → l < j → wrong l ≡ false))
+    ((r ≡ Ok tt) × ((j : ℕ) → i ≤ j → j < i + k → wrong j ≡ false))
+    ⊎ ((j : ℕ) × (r ≡ Err (BadWire j t)) × (j < i + k) × (wrong j ≡ true) × ((l : ℕ) → i ≤ l → l < j → wrong l ≡ false))
 
 wire_said : (wrong : ℕ → Bool) (t k i : ℕ) → WireSaid wrong t i k (wire_fault wrong t i k)
 unfolding wire_fault
@@ -184,13 +188,29 @@ wire_said wrong t zero i = inl (refl, λ j l m. absurd (omega arith))
 wire_said wrong t (suc k) i = go (wrong i) refl (wire_said wrong t k (suc i))
   where
     go : (x : Bool) → wrong i ≡ x → WireSaid wrong t (suc i) k (wire_fault wrong t (suc i) k)
-        → WireSaid wrong t i (suc k) (pick x (Refused (BadWire i t)) (wire_fault wrong t (suc i) k))
+        → WireSaid wrong t i (suc k) (pick x (Err (BadWire i t)) (wire_fault wrong t (suc i) k))
     go true e r = inr (i, refl, omega arith, e, λ l m o. absurd (omega arith))
     go false e (inl r) = inl (r.0, λ j l m. ⊎_elim (λ g. rw (← g) e) (λ g. r.1 j g (omega arith)) (eq-or-lt_of_le l))
     go false e (inr r) = inr (r.0, r.1, omega (arith, r.2), r.3, λ j l m. ⊎_elim (λ g. rw (← g) e) (λ g. r.4 j g m) (eq-or-lt_of_le l))
 
+-- so the first wire that a search meets is the first with a fault
+pub first_wire : (wrong : ℕ → Bool) (t n : ℕ) (found : Option ℕ)
+    → MatchOption found ((j : ℕ) → 0 ≤ j → j < n → wrong j ≡ false) (λ i. (0 ≤ i) × (i < n) × (wrong i ≡ true) × ((j : ℕ) → 0 ≤ j → j < i → wrong j ≡ false))
+    → FirstWire wrong t n found
+first_wire wrong t n None h =
+    ⊎_elim (λ r. r.0) (λ r. absurd (true≢false (sym r.3 ∙ h r.0 (omega arith) (omega (arith, r.2))))) (wire_said wrong t n 0)
+first_wire wrong t n (Some i) h =
+    ⊎_elim (λ r. absurd (true≢false (sym h.2 ∙ r.1 i (omega arith) (omega (arith, h.1)))))
+    (λ r.
+    ⊎_elim (λ e. rw e r.1)
+    (λ d.
+    ⊎_elim (λ l. absurd (true≢false (sym h.2 ∙ r.4 i (omega arith) l)))
+    (λ l. absurd (true≢false (sym r.3 ∙ h.3 r.0 (omega arith) l))) d)
+    (cases_order i r.0))
+    (wire_said wrong t n 0)
+
 record Found (wrong : ℕ → ℕ → Bool) (n t k : ℕ) (r : Checked) (j u : ℕ) : Type 0 where
-  answer : r ≡ Refused (BadWire j u)
+  answer : r ≡ Err (BadWire j u)
   inside : (j < n) × (t ≤ u) × (u < t + k)
   here : wrong u j ≡ true
   wires : (l : ℕ) → l < j → wrong u l ≡ false
@@ -198,7 +218,7 @@ record Found (wrong : ℕ → ℕ → Bool) (n t k : ℕ) (r : Checked) (j u : �
 
 abbrev TrackSaid : (wrong : ℕ → ℕ → Bool) (n t k : ℕ) → Checked → Type 0
 TrackSaid wrong n t k r =
-    ((r ≡ Accepted) × ((u j : ℕ) → t ≤ u → u < t + k → j < n → wrong u j ≡ false))
+    ((r ≡ Ok tt) × ((u j : ℕ) → t ≤ u → u < t + k → j < n → wrong u j ≡ false))
     ⊎ ((j : ℕ) × (u : ℕ) × Found wrong n t k r j u)
 
 track_said : (wrong : ℕ → ℕ → Bool) (n k t : ℕ) → TrackSaid wrong n t k (track_fault wrong n t k)
@@ -211,7 +231,7 @@ track_said wrong n (suc k) t = go (wire_fault (wrong t) t 0 n) (wire_said (wrong
 
     go : (x : Checked) → WireSaid (wrong t) t 0 n x → TrackSaid wrong n (suc t) k rest → TrackSaid wrong n t (suc k) (or_else x rest)
     go x (inr w) r =
-        let e : x ≡ Refused (BadWire w.0 t) = w.1 in
+        let e : x ≡ Err (BadWire w.0 t) = w.1 in
         rw e
         (inr (
           w.0,
@@ -225,10 +245,10 @@ track_said wrong n (suc k) t = go (wire_fault (wrong t) t 0 n) (wire_said (wrong
           },
         ))
     go x (inl w) (inl r) =
-        let e : x ≡ Accepted = w.0 in
+        let e : x ≡ Ok tt = w.0 in
         rw e (inl (r.0, λ u j l m q. ⊎_elim (λ g. rw (← g) (w.1 j (omega arith) (omega arith))) (λ g. r.1 u j g (omega arith) q) (eq-or-lt_of_le l)))
     go x (inl w) (inr r) =
-        let e : x ≡ Accepted = w.0 in
+        let e : x ≡ Ok tt = w.0 in
         let f = r.2 in
         rw e
         (inr (
@@ -251,11 +271,11 @@ module _ (n s : ℕ) (a c : ℕ → ℤ) (e : ℕ → ℕ → ℤ) where
   clean : (t i : ℕ) → fault_at n s a c e t i ≡ false → Fault n s a c e t i → ⊥
   clean t i h = (fault_tells n s a c e t i).no h
 
-  pub searched : ((search ≡ Accepted) × NoFault n s a c e) ⊎ ((i : ℕ) × (t : ℕ) × (search ≡ Refused (BadWire i t)) × FirstFault n s a c e i t)
+  pub searched : ((search ≡ Ok tt) × NoFault n s a c e) ⊎ ((i : ℕ) × (t : ℕ) × (search ≡ Err (BadWire i t)) × FirstFault n s a c e i t)
   searched = go (track_said (fault_at n s a c e) n (s + 1) 0)
     where
       go : TrackSaid (fault_at n s a c e) n 0 (s + 1) search
-          → ((search ≡ Accepted) × NoFault n s a c e) ⊎ ((i : ℕ) × (t : ℕ) × (search ≡ Refused (BadWire i t)) × FirstFault n s a c e i t)
+          → ((search ≡ Ok tt) × NoFault n s a c e) ⊎ ((i : ℕ) × (t : ℕ) × (search ≡ Err (BadWire i t)) × FirstFault n s a c e i t)
       go (inl r) = inl (r.0, λ i m t l. clean t i (r.1 t i (omega arith) (omega arith) m))
       go (inr r) =
           let f = r.2 in
@@ -273,11 +293,11 @@ module _ (n s : ℕ) (a c : ℕ → ℤ) (e : ℕ → ℕ → ℤ) where
           )
 
   -- the search finds none exactly where there is none
-  pub none_exactly : (search ≡ Accepted) ↔ NoFault n s a c e
+  pub none_exactly : (search ≡ Ok tt) ↔ NoFault n s a c e
   none_exactly = (there, back)
     where
-      there : search ≡ Accepted → NoFault n s a c e
+      there : search ≡ Ok tt → NoFault n s a c e
       there h = ⊎_elim (λ r. r.1) (λ r. absurd (refused_not (BadWire r.0 r.1) (sym r.2 ∙ h))) searched
 
-      back : NoFault n s a c e → search ≡ Accepted
+      back : NoFault n s a c e → search ≡ Ok tt
       back f = ⊎_elim (λ r. r.0) (λ r. absurd (f r.0 r.3.wire r.1 r.3.track r.3.fault)) searched

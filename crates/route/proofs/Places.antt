@@ -7,6 +7,7 @@ use Prim.Native.Nat.{ℕ, zero, suc, ◌+◌, ◌-◌, ◌*◌, ◌≤◌, ◌<�
 use native.Mathlib.Nat.{suc-mul, mul-le-mul_right, eq-or-lt_of_le, add-suc, add-zero}
 use native.Mathlib.Numerals.{add-one}
 use native.Mathlib.Omega.{arith}
+use Rattle.std.proofs.lemmas.List.{take_more, take-append-drop}
 use lib.ListN.{length, get_or, take, drop, set, length-append, length-drop, drop_of_length-le}
 use lib.Seq.{drop-cons, drop-drop, take_all, take_at, drop_at, set_at, get_or-append-add}
 use lib.IntN.{ℤ, pos}
@@ -37,6 +38,18 @@ columns_at e (suc k) t rest h = rw (append_assoc (columns e k) (e k ∷ []) rest
     last g =
         let i : t ≡ length (columns e k) + 0 = omega (arith, columns_length e k) in
         ap (λ (j : ℕ). get_or (columns e k ++ (e k ∷ rest)) j (pos 0)) i ∙ get_or-append-add (columns e k) (e k ∷ rest) 0 (pos 0) ∙ ap e (sym g)
+
+-- the places of a buffer that hold k columns, one by one
+pub columns_are : (e : ℕ → ℤ) (k : ℕ) (out : List ℤ) → k ≤ length out → ((t : ℕ) → t < k → get_or out t (pos 0) ≡ e t) → take k out ≡ columns e k
+unfolding columns
+columns_are e zero out h f = refl
+columns_are e (suc k) out h f =
+    rw (← add-one k, take_more out k (pos 0) (omega arith), f k (omega arith), columns_are e k out (omega arith) (λ t l. f t (omega arith)))
+
+-- and a buffer of which they are the first
+pub columns_first : (e : ℕ → ℤ) (k : ℕ) (out₀ out : List ℤ) → k ≤ length out → ((t : ℕ) → t < k → get_or out t (pos 0) ≡ e t) → drop k out ≡ drop k out₀
+    → out ≡ columns e k ++ drop k out₀
+columns_first e k out₀ out h f g = rw (← g, ← columns_are e k out h f) (sym (take-append-drop k out))
 
 pub wires_length : (e : ℕ → ℕ → ℤ) (s k : ℕ) → length (wires e s k) ≡ k * (s + 1)
 unfolding wires
@@ -117,39 +130,20 @@ straight_on e c m k out₀ out ys le room free was g =
     let h : columns e k ≡ columns e m ++ columns (λ t. c) (k - m) = ap (columns e) (sym w) ∙ columns_more e m (k - m) ∙ rw f in
     put_next (columns e m) m out₀ out (columns_length e m) (omega arith) was (columns (λ t. c) (k - m)) (k - m) ys g ∙ rw (w, h)
 
--- the first i of n wires stand in what was out₀, up to place `at`
-pub record Drawn (e : ℕ → ℕ → ℤ) (s n : ℕ) (out₀ : List ℤ) (i at : ℕ) (out : List ℤ) : Type 0 where
-  pub place : at ≡ i * (s + 1)
-  pub same : length out ≡ length out₀
-  pub begun : out ≡ wires e s i ++ drop at out₀
+pub none_drawn : (e : ℕ → ℕ → ℤ) (s : ℕ) (out : List ℤ) → out ≡ wires e s 0 ++ drop (0 * (s + 1)) out
+unfolding wires
+none_drawn e s out = let z : 0 * (s + 1) ≡ 0 = omega arith in rw z
 
-module _ (e : ℕ → ℕ → ℤ) (s n : ℕ) (out₀ : List ℤ) where
-  pub drawn_none : Drawn e s n out₀ 0 0 out₀
+-- wire i is drawn where the first i wires stand
+module _ (e : ℕ → ℕ → ℤ) (s n : ℕ) (out₀ out : List ℤ) (i at : ℕ) (here : at ≡ i * (s + 1)) (lt : i < n) (room : n * (s + 1) ≤ length out₀)
+    (was : out ≡ wires e s i ++ drop (i * (s + 1)) out₀) where
+  pub place_room : at + (s + 1) ≤ length out₀
+  place_room = omega (arith, place_in n s i s lt (omega arith))
+
+  pub wire_next : (ys : List ℤ) → ys ≡ columns (e i) (s + 1) ++ drop (s + 1) (take (length out - at) (drop at out))
+      → put at out ys ≡ wires e s (i + 1) ++ drop ((i + 1) * (s + 1)) out₀
   unfolding wires
-  drawn_none = record { place = omega arith; same = refl; begun = refl }
-
-  pub drawn_all : (i at : ℕ) (out : List ℤ) → i ≡ n → Drawn e s n out₀ i at out → out ≡ wires e s n ++ drop (n * (s + 1)) out₀
-  drawn_all i at out h r = rw (r.place, h) at r.begun
-
-  module _ (i at : ℕ) (out : List ℤ) (lt : i < n) (room : n * (s + 1) ≤ length out₀) (r : Drawn e s n out₀ i at out) where
-    pub drawn_room : at + (s + 1) ≤ length out₀
-    drawn_room = omega (arith, r.place, place_in n s i s lt (omega arith))
-
-    here : length (wires e s i) ≡ at
-    here = wires_length e s i ∙ sym r.place
-
-    pub drawn_part : s < length (take (length out - at) (drop at out))
-    drawn_part = omega (arith, drawn_room, lent_length (wires e s i) at out₀ out here (omega (arith, drawn_room)) r.begun)
-
-    pub drawn_next : (ys : List ℤ) → ys ≡ columns (e i) (s + 1) ++ drop (s + 1) (take (length out - at) (drop at out))
-        → Drawn e s n out₀ (i + 1) (at + (s + 1)) (put at out ys)
-    unfolding wires
-    drawn_next ys g =
-        let f = put_next (wires e s i) at out₀ out here (omega (arith, drawn_room)) r.begun (columns (e i) (s + 1)) (s + 1) ys g in
-        let both = length-append (wires e s i) (columns (e i) (s + 1)) in
-        let l : length (wires e s i ++ columns (e i) (s + 1)) ≡ at + (s + 1) = both ∙ omega (arith, here, columns_length (e i) (s + 1)) in
-        record {
-          place = rw (add-one i) (omega (arith, r.place, suc-mul i (s + 1)));
-          same = put_same (wires e s i ++ columns (e i) (s + 1)) (at + (s + 1)) out₀ (put at out ys) l drawn_room f;
-          begun = rw (add-one i) f;
-        }
+  wire_next ys g =
+      let f = put_next (wires e s i) at out₀ out (wires_length e s i ∙ sym here) (omega (arith, place_room)) (rw here was) (columns (e i) (s + 1)) (s + 1) ys g in
+      let w : at + (s + 1) ≡ (i + 1) * (s + 1) = rw (add-one i) (omega (arith, here, suc-mul i (s + 1))) in
+      f ∙ rw (w, add-one i)

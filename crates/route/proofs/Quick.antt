@@ -1,16 +1,20 @@
 -- The pass over a table as it lies in memory: four comparisons a track, wire by wire.
 use mathlib.Core.Path.{◌≡◌, refl, sym, ◌∙◌}
-use mathlib.Core.Bool.{Bool, true, false, cond}
+use mathlib.Core.Bool.{Bool, true, false, not, cond}
 use mathlib.Core.List.{List}
 use mathlib.Core.Logic.{inl, inr, ⊎_elim, ◌↔◌}
-use Prim.Native.Nat.{ℕ, suc, ◌+◌, ◌-◌, ◌*◌, ◌≤◌, ◌<◌}
-use native.Mathlib.Nat.{eq-or-lt_of_le, suc-mul}
+use Prim.Native.Nat.{ℕ, suc, ◌+◌, ◌*◌, ◌≤◌, ◌<◌}
+use native.Mathlib.Nat.{eq-or-lt_of_le}
 use native.Mathlib.Numerals.{add-one}
 use native.Mathlib.Omega.{arith}
 use borrow.Author.Tests.{eqb-true, eq-eqb}
 use lib.Dec.{eqb}
-use lib.ListN.{length, take, drop, length-drop}
-use lib.Seq.{take_all, get_or-drop}
+use lib.ListN.{length, get_or, take, drop}
+use lib.Seq.{get_or-take, get_or-drop}
+use Rattle.std.specs.Bool.{MatchBool}
+use Rattle.std.specs.List.{AllWithin, HoldsAt, range_with_len}
+use Rattle.std.proofs.lemmas.List.FromFn.{get_or-range_with_len, length-range_with_len}
+use Rattle.std.proofs.Common.{subst}
 use lib.IntN.{ℤ, pos}
 use lib.Signed.{◌<ℤ◌, lt_z}
 use Rattle.whole.specs.Pick.{larger_of, smaller_of}
@@ -18,8 +22,8 @@ use Rattle.whole.proofs.Arith.{arithℤ, ≤_or_<}
 use Rattle.whole.proofs.Order.{untrue, true_lt, false_lt, larger_law, smaller_law}
 use Rattle.wiring.specs.Wiring.{pad}
 use Rattle.route.specs.Table.{column_in}
-use Rattle.route.specs.Check.{rightmost, leftmost, WireClear, NoFault, RunsApart, start_wrong, end_wrong, steps_aside}
-use Rattle.route.proofs.Faults.{start_tells, end_tells, aside_tells}
+use Rattle.route.specs.Check.{rightmost, leftmost, WireClear, NoFault, RunsApart, ends_wrong}
+use Rattle.route.proofs.Faults.{ends_tell}
 
 -- what one comparison adds
 record Added (x y : ℤ) (k : ℕ) : Type 0 where
@@ -75,72 +79,63 @@ runs_more p q t m k f g = (
 )
 
 -- the places from `at` on are wire i's columns
-pub row_from : (table : List ℤ) (s i at t : ℕ) → at ≡ i * (s + 1) → pad (take (length table - at) (drop at table)) t ≡ column_in table s i t
+pub row_from : (table : List ℤ) (s i at k t : ℕ) → at ≡ i * (s + 1) → t < k → pad (take k (drop at table)) t ≡ column_in table s i t
 unfolding column_in
-row_from table s i at t e = rw (take_all (length table - at) (drop at table) (omega (arith, length-drop at table)), get_or-drop at table t (pos 0), e)
+row_from table s i at k t e h = get_or-take k (drop at table) t (pos 0) h ∙ get_or-drop at table t (pos 0) ∙ rw e
 
-pub runs_same : (p p' q q' : ℕ → ℤ) (s : ℕ) → ((t : ℕ) → p t ≡ p' t) → ((t : ℕ) → q t ≡ q' t) → RunsApart p q s → RunsApart p' q' s
-runs_same p p' q q' s f g r t h = rw (← f t, ← f (suc t), ← g t, ← g (suc t)) (r t h)
-
--- the table's runs, as two parts of it have them
-pub rows_apart : (table : List ℤ) (s i at next : ℕ) → at ≡ i * (s + 1) → next ≡ at + s + 1
-    → RunsApart (pad (take (length table - at) (drop at table))) (pad (take (length table - next) (drop next table))) s
-    ↔ RunsApart (column_in table s i) (column_in table s (suc i)) s
-rows_apart table s i at next e f =
-    let g : next ≡ suc i * (s + 1) = omega (arith, suc-mul i (s + 1)) in
-    let here : ℕ → ℤ = pad (take (length table - at) (drop at table)) in
-    let there : ℕ → ℤ = pad (take (length table - next) (drop next table)) in
-    let p : (t : ℕ) → here t ≡ column_in table s i t = λ t. row_from table s i at t e in
-    let q : (t : ℕ) → there t ≡ column_in table s (suc i) t = λ t. row_from table s (suc i) next t g in (
-      runs_same here (column_in table s i) there (column_in table s (suc i)) s p q,
-      runs_same (column_in table s i) here (column_in table s (suc i)) there s (λ t. sym (p t)) (λ t. sym (q t)),
-    )
+pub runs_same : (p p' q q' : ℕ → ℤ) (s : ℕ) → ((t : ℕ) → t ≤ s → p t ≡ p' t) → ((t : ℕ) → t ≤ s → q t ≡ q' t) → RunsApart p q s ↔ RunsApart p' q' s
+runs_same p p' q q' s f g =
+    (λ r t h. rw (← f t (omega arith), ← f (suc t) (omega arith), ← g t (omega arith), ← g (suc t) (omega arith)) (r t h),
+    λ r t h. rw (f t (omega arith), f (suc t) (omega arith), g t (omega arith), g (suc t) (omega arith)) (r t h))
 
 -- A WIRE IS CLEAR when it starts and ends right, goes straight up from its pad, and its runs are to the left of the next wire's
 module _ (n s : ℕ) (a c : ℕ → ℤ) (e : ℕ → ℕ → ℤ) (i : ℕ) where
-  pub clear_of : start_wrong a e 0 i ≡ false → end_wrong s c e s i ≡ false → steps_aside s e 0 i ≡ false
-      → (suc i < n → RunsApart (e i) (e (suc i)) s) → WireClear n s a c e i
-  clear_of f g q r t h (inl x) = (start_tells a e 0 i).no f (refl, x.1)
-  clear_of f g q r t h (inr (inl x)) = (end_tells s c e s i).no g (refl, x.1)
-  clear_of f g q r t h (inr (inr (inl x))) = (aside_tells s e 0 i).no q (refl, x.1, x.2)
-  clear_of f g q r t h (inr (inr (inr x))) = omega (arithℤ, x.touches, r x.wire t x.track)
+  clear_of : ends_wrong s a c e i ≡ false → (suc i < n → RunsApart (e i) (e (suc i)) s) → WireClear n s a c e i
+  clear_of f r t h (inl x) = (ends_tell s a c e i).no f (inl (refl, x.1))
+  clear_of f r t h (inr (inl x)) = (ends_tell s a c e i).no f (inr (inl (refl, x.1)))
+  clear_of f r t h (inr (inr (inl x))) = (ends_tell s a c e i).no f (inr (inr (refl, x.1, x.2)))
+  clear_of f r t h (inr (inr (inr x))) = omega (arithℤ, x.touches, r x.wire t x.track)
 
-  pub start_unclear : start_wrong a e 0 i ≡ true → WireClear n s a c e i → ⊥
-  start_unclear f w = w 0 (omega arith) (inl ((start_tells a e 0 i).yes f))
+  ends_unclear : ends_wrong s a c e i ≡ true → WireClear n s a c e i → ⊥
+  ends_unclear f w =
+      ⊎_elim (λ x. w 0 (omega arith) (inl x))
+      (λ y. ⊎_elim (λ x. w s (omega arith) (inr (inl x))) (λ x. w 0 (omega arith) (inr (inr (inl x)))) y)
+      ((ends_tell s a c e i).yes f)
 
-  pub end_unclear : end_wrong s c e s i ≡ true → WireClear n s a c e i → ⊥
-  end_unclear f w = w s (omega arith) (inr (inl ((end_tells s c e s i).yes f)))
-
-  pub aside_unclear : steps_aside s e 0 i ≡ true → WireClear n s a c e i → ⊥
-  aside_unclear f w = w 0 (omega arith) (inr (inr (inl ((aside_tells s e 0 i).yes f))))
-
-  pub clear_runs : suc i < n → WireClear n s a c e i → RunsApart (e i) (e (suc i)) s
+  clear_runs : suc i < n → WireClear n s a c e i → RunsApart (e i) (e (suc i)) s
   clear_runs l w t h =
       ⊎_elim
       (λ x. absurd (w t (omega arith) (inr (inr (inr (record { track = h; wire = l; touches = x }))))))
       (λ x. x)
       (≤_or_< (leftmost e (suc i) t) (rightmost e i t))
 
-  pub clear_by : (k : ℕ) → start_wrong a e 0 i ≡ false → end_wrong s c e s i ≡ false → steps_aside s e 0 i ≡ false
-      → suc i < n → (k ≡ 0) ↔ RunsApart (e i) (e (suc i)) s → (eqb k 0 ≡ true) ↔ WireClear n s a c e i
-  clear_by k f g q l r = ((λ z. clear_of f g q (λ h. r.0 (eqb-true k 0 z))), (λ w. eq-eqb k 0 (r.1 (clear_runs l w))))
+  -- as the code finds it: `right` tells that it starts, ends and leaves its pad as it should
+  module _ (right : Bool) (tells : right ≡ not (ends_wrong s a c e i)) where
+    go : (x : Bool) → right ≡ not x → ((right ≡ true → x ≡ false) × (right ≡ false → x ≡ true))
+    go true h = ((λ z. untrue (sym h ∙ z)), (λ z. refl))
+    go false h = ((λ z. refl), (λ z. untrue (sym z ∙ h)))
 
-  pub clear_last : start_wrong a e 0 i ≡ false → end_wrong s c e s i ≡ false → steps_aside s e 0 i ≡ false → n ≤ suc i → (true ≡ true) ↔ WireClear n s a c e i
-  clear_last f g q l = ((λ z. clear_of f g q (λ h. absurd (omega arith))), (λ w. refl))
+    pub clear_by : (p q : ℕ → ℤ) (k : ℕ) → right ≡ true → suc i < n → ((t : ℕ) → t ≤ s → p t ≡ e i t) → ((t : ℕ) → t ≤ s → q t ≡ e (suc i) t)
+        → (k ≡ 0) ↔ RunsApart p q s → (eqb k 0 ≡ true) ↔ WireClear n s a c e i
+    clear_by p q k f l here there r =
+        let same = runs_same p (e i) q (e (suc i)) s here there in
+        ((λ z. clear_of ((go _ tells).0 f) (λ h. same.0 (r.0 (eqb-true k 0 z)))), (λ w. eq-eqb k 0 (r.1 (same.1 (clear_runs l w)))))
 
-  pub unclear : (WireClear n s a c e i → ⊥) → (false ≡ true) ↔ WireClear n s a c e i
-  unclear h = ((λ z. untrue z), (λ w. absurd (h w)))
+    pub clear_last : (last : Bool) → right ≡ true → last ≡ true → n ≤ suc i → (last ≡ true) ↔ WireClear n s a c e i
+    clear_last last f g l = ((λ z. clear_of ((go _ tells).0 f) (λ h. absurd (omega arith))), (λ w. g))
 
--- the wires one by one
+    pub unclear : right ≡ false → (right ≡ true) ↔ WireClear n s a c e i
+    unclear f = ((λ z. untrue (sym f ∙ z)), (λ w. absurd (ends_unclear ((go _ tells).1 f) w)))
+
+-- all wires, as `all` asks them
 module _ (n s : ℕ) (a c : ℕ → ℤ) (e : ℕ → ℕ → ℤ) where
-  abbrev pub ClearTo : ℕ → Type 0
-  ClearTo i = (j : ℕ) → j < i → WireClear n s a c e j
+  asked : (i : ℕ) → i < n → get_or (range_with_len 0 n) i 0 ≡ i
+  asked i l = get_or-range_with_len 0 n i 0 l ∙ omega arith
 
-  pub clear_next : (i : ℕ) → ClearTo i → WireClear n s a c e i → ClearTo (i + 1)
-  clear_next i f w j h = let le : j ≤ i = omega arith in ⊎_elim (λ g. rw g w) (f j) (eq-or-lt_of_le le)
-
-  pub clear_all : (i : ℕ) → i ≡ n → ClearTo i → (true ≡ true) ↔ NoFault n s a c e
-  clear_all i g f = ((λ z j h. f j (omega arith)), (λ w. refl))
-
-  pub not_clear : (i : ℕ) (r : Bool) → i < n → (r ≡ true) ↔ WireClear n s a c e i → r ≡ false → (false ≡ true) ↔ NoFault n s a c e
-  not_clear i r h f g = ((λ z. untrue z), (λ w. sym g ∙ f.1 (w i h)))
+  pub all_clear : (r : Bool) → MatchBool r (AllWithin (WireClear n s a c e) (range_with_len 0 n) 0 (length (range_with_len 0 n)))
+          ((k : ℕ) × (k < length (range_with_len 0 n)) × HoldsAt (λ i. WireClear n s a c e i → ⊥) (range_with_len 0 n) k)
+      → (r ≡ true) ↔ NoFault n s a c e
+  all_clear true h = ((λ z i l. subst (WireClear n s a c e) (asked i l) (h i 0 (omega arith) (omega (arith, length-range_with_len 0 n)))), (λ f. refl))
+  all_clear false h =
+      let l : h.0 < n = omega (arith, h.1, length-range_with_len 0 n) in
+      ((λ z. untrue z), (λ f. absurd (subst (λ i. WireClear n s a c e i → ⊥) (asked h.0 l) (h.2 0) (f h.0 l))))

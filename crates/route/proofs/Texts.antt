@@ -1,3 +1,4 @@
+use Rattle.std.specs.Prelude.{Ok, Err}
 -- The frames 21: a wire that has come to its top pad's column, and what writing them leaves to write.
 use mathlib.Core.Path.{◌≡◌, refl, sym, ap, ◌∙◌}
 use mathlib.Core.Bool.{Bool, true, false, cond, true≢false}
@@ -9,6 +10,9 @@ use lib.Dec.{ltb, leb}
 use lib.ListN.{length, take}
 use lib.IntN.{ℤ, pos, ◌+ℤ◌, ◌-ℤ◌}
 use lib.Signed.{◌≤ℤ◌, lt_z}
+use mir.Syntax.{w32}
+use mir.Val.{SFits, of_z, to_z}
+use Rattle.std.proofs.lemmas.Int.{to_z-of_z}
 use borrow.Author.Tests.{lt-ltb, le-ltb, ltb-true, ltb-false, leb-true, leb-false, eq-eqb, ne_eqb}
 use Rattle.whole.specs.Pick.{differ}
 use Rattle.whole.proofs.Arith.{arithℤ, sum, dif}
@@ -25,8 +29,6 @@ use Rattle.jumper.specs.Rows.{checked_numbers}
 use Rattle.jumper.specs.Asked.{check_asked, Asked}
 use Rattle.jumper.specs.declared.refusal.Numbers.{Numbers}
 use Rattle.jumper.specs.declared.refusal.Refusal.{Refusal}
-use Rattle.jumper.specs.declared.rows.Checked.{Checked}
-use Rattle.jumper.specs.declared.rows.Checked.TheVariants.{Accepted, Refused}
 use Rattle.jumper.proofs.Accepted.{number_of, numbered}
 use Rattle.jumper.proofs.Checks.{asked_accepted}
 use Rattle.frame.specs.Written.{move_line}
@@ -38,14 +40,17 @@ use Rattle.route.specs.Moves.{move_text, track_text, wire_text, wires_text, rout
 
 -- ---- equal columns
 
-pub differ_not : (x y : ℤ) → differ x y ≡ false → x ≡ y
-differ_not x y h =
-    either (lt_z x y)
-    (λ e. absurd (true≢false (sym (simp e) ∙ h)))
-    (λ e. let f : lt_z y x ≡ false = simp e at h in omega (arithℤ, false_lt x y e, false_lt y x f))
+-- and columns of which the bits are equal
+pub same_bits : (x y : ℤ) → SFits w32 x → SFits w32 y → of_z w32 x ≡ of_z w32 y → x ≡ y
+same_bits x y f g e = sym (to_z-of_z w32 x f) ∙ ap (to_z w32) e ∙ to_z-of_z w32 y g
 
-differ_same : (x : ℤ) → differ x x ≡ false
-differ_same x = let e : lt_z x x ≡ false = lt_false x x (omega arithℤ) in simp e
+differ_same : (x y : ℤ) → x ≡ y → differ x y ≡ false
+differ_same x y h = let e : lt_z x y ≡ false = lt_false x y (omega arithℤ) in let f : lt_z y x ≡ false = lt_false y x (omega arithℤ) in simp (e, f)
+
+differ_not : (x y : ℤ) → (x ≡ y → ⊥) → differ x y ≡ true
+differ_not x y h =
+    either (lt_z x y) (λ e. simp e)
+    (λ e. either (lt_z y x) (λ f. simp (e, f)) (λ f. absurd (h (omega (arithℤ, false_lt x y e, false_lt y x f)))))
 
 -- ---- a wire that has come to the column of its top pad stays there
 
@@ -78,7 +83,7 @@ pub none_on_track_0 : (l n : ℕ) (a c : ℕ → ℤ) (i : ℕ) → track_text l
 unfolding move_text
 none_on_track_0 l n a c i =
     let second : drawn n a c i (0 + 1) ≡ drawn n a c i 0 = column_second n a (c i) i in
-    simp (second, differ_same (drawn n a c i 0)) refl
+    simp (second, differ_same (drawn n a c i 0) (drawn n a c i 0) refl) refl
 
 no_tracks : (l : ℕ) (e : ℕ → ℕ → ℤ) (c : ℤ) (i t k : ℕ) → ((u : ℕ) → t ≤ u → e i u ≡ c) → wire_text l e i t k ≡ []
 unfolding wire_text move_text
@@ -86,14 +91,14 @@ no_tracks l e c i t zero h = refl
 no_tracks l e c i t (suc k) h =
     let p : e i t ≡ c = h t (omega arith) in
     let q : e i (t + 1) ≡ c = h (t + 1) (omega arith) in
-    simp (p, q, differ_same c) (no_tracks l e c i (t + 1) k (λ u g. h u (omega arith)))
+    simp (p, q, differ_same c c refl) (no_tracks l e c i (t + 1) k (λ u g. h u (omega arith)))
 
 -- ---- one track
 
 module _ (m : Move) (out : List ℕ) (at : ℕ) where
-  pub track_none : differ m.from m.to ≡ false → TrackOut (move_text m) out at true at out
+  pub track_none : m.from ≡ m.to → TrackOut (move_text m) out at true at out
   unfolding move_text
-  track_none e = record { wrote = λ h. simp e (sym (append-nil (take at out))); fits = (λ h. h); full = λ h. absurd (true≢false h) }
+  track_none e = record { wrote = λ h. simp (differ_same m.from m.to e) (sym (append-nil (take at out))); fits = (λ h. h); full = λ h. absurd (true≢false h) }
 
   pub track_full : (p : ℕ) (out' : List ℕ) → LinePut (move_line m) out at p out' → p ≡ at → TrackOut (move_text m) out at false at out'
   track_full p out' k e =
@@ -105,7 +110,7 @@ module _ (m : Move) (out : List ℕ) (at : ℕ) where
       let g = k.full f in
       record { wrote = (λ h. absurd (true≢false (sym h))); fits = (λ h. h); full = λ h. (refl, g.1, omega arith) })
 
-  pub track_put : (p : ℕ) (out' : List ℕ) → LinePut (move_line m) out at p out' → (p ≡ at → ⊥) → differ m.from m.to ≡ true
+  pub track_put : (p : ℕ) (out' : List ℕ) → LinePut (move_line m) out at p out' → (p ≡ at → ⊥) → (m.from ≡ m.to → ⊥)
       → TrackOut (move_text m) out at true p out'
   unfolding move_text
   track_put p out' k n e =
@@ -114,7 +119,7 @@ module _ (m : Move) (out : List ℕ) (at : ℕ) where
       let room : at + length (move_line m) ≤ length out = leb-true _ _ q in
       let g = k.room room in
       record {
-        wrote = λ h. simp e (ap (λ (z : ℕ). take z out') g.0 ∙ ap (take (at + length (move_line m))) g.1 ∙ take_puts out at (move_line m) room);
+        wrote = λ h. simp (differ_not m.from m.to e) (ap (λ (z : ℕ). take z out') g.0 ∙ ap (take (at + length (move_line m))) g.1 ∙ take_puts out at (move_line m) room);
         fits = λ h. omega (arith, g.0);
         full = λ h. absurd (true≢false h);
       })
@@ -137,10 +142,8 @@ module _ (l s : ℕ) (e : ℕ → ℕ → ℤ) (i : ℕ) where
   wire_none t h = let k : s - t ≡ 0 = omega arith in ap (wire_text l e i t) k
 
 -- a wire that stands on its top pad's column has nothing more to write
-pub wire_stays : (l s : ℕ) (n : ℕ) (a c : ℕ → ℤ) → Rising n a → (i t : ℕ) → i < n → drawn n a c i t ≡ c i
-    → wire_text l (drawn n a c) i t (s - t) ≡ wire_text l (drawn n a c) i s (s - s)
-wire_stays l s n a c ra i t here e =
-    no_tracks l (drawn n a c) (c i) i t (s - t) (λ u g. stays n a ra (c i) i t u here g e) ∙ sym (wire_none l s (drawn n a c) i s (omega arith))
+pub wire_stays : (l s : ℕ) (n : ℕ) (a c : ℕ → ℤ) → Rising n a → (i t : ℕ) → i < n → drawn n a c i t ≡ c i → wire_text l (drawn n a c) i t (s - t) ≡ []
+wire_stays l s n a c ra i t here e = no_tracks l (drawn n a c) (c i) i t (s - t) (λ u g. stays n a ra (c i) i t u here g e)
 
 -- ---- the wires of a route
 
@@ -155,16 +158,15 @@ wires_none : (l s : ℕ) (e : ℕ → ℕ → ℤ) (i n : ℕ) → n ≤ i → w
 unfolding wires_text
 wires_none l s e i n h = let k : n - i ≡ 0 = omega arith in ap (wires_text l e s i) k
 
-pub route_more : (l s : ℕ) (d : ℤ) (a b : List ℤ) (i t t' : ℕ) (out out' : List ℕ) (p q : ℕ) → i < length a → s ≤ t'
-    → take p out ++ wire_text l (drawn (length a) (pad a) (top_pad b d)) i t (s - t) ≡ take q out' ++ wire_text l (drawn (length a) (pad a) (top_pad b d)) i t' (s - t')
+pub route_more : (l s : ℕ) (d : ℤ) (a b : List ℤ) (i t : ℕ) (out out' : List ℕ) (p q : ℕ) → i < length a
+    → take p out ++ wire_text l (drawn (length a) (pad a) (top_pad b d)) i t (s - t) ≡ take q out' ++ []
     → take p out ++ route_left l s d a b i t ≡ take q out' ++ route_left l s d a b (i + 1) 0
 unfolding route_left
-route_more l s d a b i t t' out out' p q h g w =
+route_more l s d a b i t out out' p q h w =
     let R : List ℕ = wires_text l e s (i + 1) (length a - (i + 1)) in
-    let none : wire_text l e i t' (s - t') ≡ [] = wire_none l s e i t' g in
     simp (lt-ltb _ _ h)
     (sym (append_assoc (take p out) (wire_text l e i t (s - t)) R)
-    ∙ ap (λ (z : List ℕ). z ++ R) (w ∙ ap (λ (z : List ℕ). take q out' ++ z) none ∙ append-nil (take q out'))
+    ∙ ap (λ (z : List ℕ). z ++ R) (w ∙ append-nil (take q out'))
     ∙ ap (λ (z : List ℕ). take q out' ++ z) (next (ltb (i + 1) (length a)) refl))
   where
     e : ℕ → ℕ → ℤ
@@ -192,7 +194,7 @@ route_stop l s d a b i t t' out out' p q h w =
     simp (lt-ltb _ _ h)
     (sym (append_assoc (take p out) (wire_text l e i t (s - t)) R) ∙ ap (λ (z : List ℕ). z ++ R) w ∙ append_assoc (take q out') (wire_text l e i t' (s - t')) R)
 
--- ---- the steps of the loop over a wire's tracks
+-- ---- the step of the loop over a wire's tracks
 
 pub wire_step : (l s : ℕ) (e : ℕ → ℕ → ℤ) (i : ℕ) (W out out' : List ℕ) (t p q : ℕ) (x y : ℤ) → t < s → x ≡ e i t → y ≡ e i (t + 1)
     → W ≡ take p out ++ wire_text l e i t (s - t) → take q out' ≡ take p out ++ move_text (record { line = l; wire = i; track = t; from = x; to = y })
@@ -201,26 +203,16 @@ wire_step l s e i W out out' t p q x y h ex ey w g =
     let m : move_text (record { line = l; wire = i; track = t; from = x; to = y }) ≡ track_text l e i t = simp (ex, ey) in
     w ∙ wire_more l s e i out out' t p q h (g ∙ ap (λ (z : List ℕ). take p out ++ z) m)
 
-pub wire_still : (l s : ℕ) (n : ℕ) (a c : ℕ → ℤ) → Rising n a → (i : ℕ) (W out : List ℕ) (t p : ℕ) (x z : ℤ) → i < n
-    → x ≡ drawn n a c i t → z ≡ c i → differ x z ≡ false
-    → W ≡ take p out ++ wire_text l (drawn n a c) i t (s - t) → W ≡ take p out ++ wire_text l (drawn n a c) i s (s - s)
-wire_still l s n a c ra i W out t p x z here ex ez d w =
-    w ∙ ap (λ (y : List ℕ). take p out ++ y) (wire_stays l s n a c ra i t here (sym ex ∙ differ_not x z d ∙ ez))
-
-pub wire_full : (l s : ℕ) (e : ℕ → ℕ → ℤ) (i : ℕ) (W out out' : List ℕ) (t p : ℕ) → out' ≡ out
-    → W ≡ take p out ++ wire_text l e i t (s - t) → W ≡ take p out' ++ wire_text l e i t (s - t)
-wire_full l s e i W out out' t p g w = w ∙ ap (λ (y : List ℕ). take p y ++ wire_text l e i t (s - t)) (sym g)
-
 -- ---- rows that are accepted, and rows that are not
-module _ (l s : ℕ) (d : ℤ) (a b : List ℤ) (i t : ℕ) (out : List ℕ) (from : ℕ) (q : Checked) (e : q ≡ check_asked a b s d) where
-  pub asked_route : (i' t' to : ℕ) (out' : List ℕ) → q ≡ Accepted → RouteOut l s d a b i t out from i' t' to out' → MovesOut l s d a b i t out from i' t' to out'
-  asked_route i' t' to out' z r =
-      let y : is_asked a b s d ≡ true = eq-eqb _ _ (number_of (check_asked a b s d) (sym e ∙ z)) in
-      record { gave = simp y r.gave; fits = r.fits; far = r.far }
+module _ (l s : ℕ) (d : ℤ) (a b : List ℤ) (i t : ℕ) (out : List ℕ) (from : ℕ) where
+  pub asked_route : (i' t' to : ℕ) (out' last : List ℕ) → check_asked a b s d ≡ Ok tt → last ≡ out' → RouteOut l s d a b i t out from i' t' to out' → MovesOut l s d a b i t out from i' t' to last
+  asked_route i' t' to out' last z e r =
+      let y : is_asked a b s d ≡ true = eq-eqb _ _ (number_of (check_asked a b s d) z) in
+      rw e (record { gave = simp y r.gave; fits = r.fits; far = r.far })
 
-  pub unasked_route : (f : Refusal) → q ≡ Refused f → MovesOut l s d a b i t out from (length a) 0 from out
+  pub unasked_route : (f : Refusal) → check_asked a b s d ≡ Err f → MovesOut l s d a b i t out from (length a) 0 from out
   unasked_route f z =
-      let w : checked_numbers (check_asked a b s d) ≡ refusal_numbers f = ap checked_numbers (sym e ∙ z) in
+      let w : checked_numbers (check_asked a b s d) ≡ refusal_numbers f = ap checked_numbers z in
       let y : is_asked a b s d ≡ false = ne_eqb _ _ (λ h. numbered f (ap (λ (k : Numbers). k.refusal) (sym w) ∙ h)) in
       record { gave = simp y; fits = (λ h. h); far = λ h. absurd (omega arith) }
 

@@ -1,16 +1,14 @@
 -- What is drawn (01, "Drawing and checking"; 02, #106; refusals 1 to 7, WIRE, BUFFER and NOFIT), and what the two calls promise.
-use Rattle.std.specs.Prelude.{Bool, false, ◌≡◌, List, ◌++◌, ◌↔◌, ℕ, ◌+◌, ◌*◌, ◌≤◌, ◌<◌, ltb, length, drop, ℤ}
+use Rattle.std.specs.Prelude.{Ok, Err, ◌≡◌, List, ◌++◌, ◌↔◌, ℕ, ◌+◌, ◌*◌, ◌≤◌, ◌<◌, ltb, length, drop, ℤ}
 use Rattle.wiring.specs.Wiring.{Point, Legal, pad, top_pad, HasWiring}
 use Rattle.wiring.specs.Tracks.{rule_at}
 use Rattle.wiring.specs.Table.{wire_of}
 use Rattle.wiring.specs.Drawing.{drawn}
-use Rattle.jumper.specs.Refusals.{refusal_numbers}
 use Rattle.jumper.specs.Rows.{checked_numbers, pick, unless_refused, or_else}
 use Rattle.jumper.specs.Asked.{check_asked, Asked}
 use Rattle.jumper.specs.declared.refusal.Refusal.TheVariants.{Wire}
-use Rattle.jumper.specs.declared.rows.Checked.{Checked}
-use Rattle.jumper.specs.declared.rows.Checked.TheVariants.{Accepted, Refused}
-use Rattle.fit.specs.Misfit.{misfit_of, no_fit, Witness}
+use Rattle.jumper.specs.Rows.{Checked}
+use Rattle.fit.specs.Misfit.{misfit_of, no_fit, Witness, FitAnswer}
 use Rattle.route.specs.Table.{column_in, columns, wires, no_room, LegalRoute}
 
 -- the columns that we give wire i, and the wires that they mean
@@ -33,7 +31,7 @@ buffer_after r changed out = unless_refused r (λ q. out) changed
 
 -- WIRE, "wire number >= n"
 abbrev pub no_wire : (n wire : ℕ) → Checked
-no_wire n wire = pick (ltb wire n) Accepted (Refused Wire)
+no_wire n wire = pick (ltb wire n) (Ok tt) (Err Wire)
 
 -- the refusals in 01's order, for a buffer of `room` places
 abbrev pub wire_refusal : (a b : List ℤ) (s : ℕ) (d : ℤ) (wire room : ℕ) → Checked
@@ -41,11 +39,6 @@ wire_refusal a b s d wire room = or_else (check_asked a b s d) (or_else (no_wire
 
 abbrev pub all_refusal : (a b : List ℤ) (s : ℕ) (d : ℤ) (room : ℕ) → Checked
 all_refusal a b s d room = or_else (check_asked a b s d) (or_else (no_room (length a * (s + 1)) room) (no_fit (misfit_of a b (rule_at s) d)))
-
--- a refusal of `fit` that comes before WIRE: what is asked isn't accepted. Only the code needs this
-abbrev pub comes_first : Checked → Bool
-comes_first Accepted = false
-comes_first (Refused r) = ltb (refusal_numbers r).refusal (refusal_numbers Wire).refusal
 
 -- What `draw_wire` promises of a buffer `out` and what it holds after the call, `out'`: the wire that its places mean is wire `wire` of a legal wiring.
 -- NOFIT is given exactly when nothing else is refused and there is no legal wiring. A refusal writes nothing.
@@ -70,3 +63,12 @@ pub record DrawAllAnswer (a b : List ℤ) (s : ℕ) (d : ℤ) (out out' : List �
   pub legal : (checked_numbers r).refusal ≡ 0 → LegalRoute a b s d out'
   pub prevents : ((checked_numbers r).refusal ≡ 10) ↔ (Asked a b s d × (length a * (s + 1) ≤ length out) × (HasWiring a b s d → ⊥))
   pub witness : (checked_numbers r).refusal ≡ 10 → Witness a b s d (checked_numbers r).pair (checked_numbers r).side
+
+-- What the code asks first: of what is accepted, the same rows, separation and offset, and what `fit` says of them. Only the code needs this
+pub record FitAsked (a b : List ℤ) (s : ℕ) (d : ℤ) (a' b' : List ℤ) (s' : ℕ) (d' : ℤ) (r : Checked) : Type 0 where
+  pub bottom : a' ≡ a
+  pub top : b' ≡ b
+  pub separation : s' ≡ s
+  pub offset : d' ≡ d
+  pub accepted : check_asked a b s d ≡ Ok tt
+  pub fits : FitAnswer a b s d r

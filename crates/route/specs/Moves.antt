@@ -1,6 +1,6 @@
 -- The frames 21 of a line (01, "Sheets"): "one for each track t where e_(t+1) differs from e_t, by wire then track, drawn at the lowest offset".
 -- `wires_text` says which bytes they are; what is promised of writing them a part at a time is below it.
-use Rattle.std.specs.Prelude.{Bool, true, false, cond, ◌≡◌, List, [], ◌++◌, ℕ, zero, suc, ◌+◌, ◌-◌, ◌<◌, ◌≤◌, eqb, ltb, length, take, ℤ}
+use Rattle.std.specs.Prelude.{Option, Some, None, Bool, true, false, cond, ◌≡◌, List, [], ◌++◌, ℕ, zero, suc, ◌+◌, ◌-◌, ◌<◌, ◌≤◌, eqb, ltb, length, take, ℤ}
 use Rattle.whole.specs.Pick.{differ}
 use Rattle.wiring.specs.Wiring.{pad, top_pad}
 use Rattle.wiring.specs.Drawing.{drawn}
@@ -55,10 +55,15 @@ pub record RouteOut (l s : ℕ) (d : ℤ) (a b : List ℤ) (i t : ℕ) (out : Li
   pub fits : from ≤ length out → to ≤ length out
   pub far : i' < length a → length out < to + 31
 
-pub record WireOut (l s : ℕ) (d : ℤ) (a b : List ℤ) (i t : ℕ) (out : List ℕ) (from : ℕ) (t' to : ℕ) (out' : List ℕ) : Type 0 where
-  pub gave : take from out ++ wire_text l (drawn (length a) (pad a) (top_pad b d)) i t (s - t) ≡ take to out' ++ wire_text l (drawn (length a) (pad a) (top_pad b d)) i t' (s - t')
+-- the rest of a wire that stopped at a track, or of one that didn't stop
+abbrev pub wire_left : (l s : ℕ) (e : ℕ → ℕ → ℤ) (i : ℕ) → Option ℕ → List ℕ
+wire_left l s e i None = []
+wire_left l s e i (Some t) = wire_text l e i t (s - t)
+
+pub record WireOut (l s : ℕ) (d : ℤ) (a b : List ℤ) (i t : ℕ) (out : List ℕ) (from : ℕ) (stopped : Option ℕ) (to : ℕ) (out' : List ℕ) : Type 0 where
+  pub gave : take from out ++ wire_text l (drawn (length a) (pad a) (top_pad b d)) i t (s - t) ≡ take to out' ++ wire_left l s (drawn (length a) (pad a) (top_pad b d)) i stopped
   pub fits : from ≤ length out → to ≤ length out
-  pub far : t' < s → length out < to + 31
+  pub far : (stopped ≡ None → ⊥) → length out < to + 31
 
 pub record TrackOut (text out : List ℕ) (from : ℕ) (done : Bool) (to : ℕ) (out' : List ℕ) : Type 0 where
   pub wrote : done ≡ true → take to out' ≡ take from out ++ text

@@ -1,12 +1,11 @@
 -- Where the columns of a route stand (01, "Drawing and checking"): "Calls draw one wire into s + 1 places, or all wires, wire after wire, into n(s + 1) places."
 -- What the columns mean is `LegalTable` of wiring's Table.
-use Rattle.std.specs.Prelude.{List, [], ◌∷◌, ◌++◌, ℕ, zero, suc, ◌+◌, ◌*◌, ltb, length, get_or, ℤ, pos}
+use Rattle.std.specs.Prelude.{Ok, Err, List, [], ◌∷◌, ◌++◌, ℕ, zero, suc, ◌+◌, ◌*◌, ltb, length, get_or, ℤ, pos}
 use Rattle.wiring.specs.Wiring.{pad, top_pad}
 use Rattle.wiring.specs.Table.{LegalTable}
 use Rattle.jumper.specs.Rows.{pick}
 use Rattle.jumper.specs.declared.refusal.Refusal.TheVariants.{Buffer}
-use Rattle.jumper.specs.declared.rows.Checked.{Checked}
-use Rattle.jumper.specs.declared.rows.Checked.TheVariants.{Accepted, Refused}
+use Rattle.jumper.specs.Rows.{Checked}
 
 -- THE TABLE READ by wire and track: "the column on which it enters each track". All laws about i * (s + 1) + t are in proofs/Places.antt
 unfoldable pub column_in : (table : List ℤ) (s i t : ℕ) → ℤ
@@ -24,7 +23,7 @@ wires e s (suc k) = wires e s k ++ columns (e k) (s + 1)
 
 -- BUFFER, "a lent buffer is too short": `room` places are lent where `places` are wanted
 abbrev pub no_room : (places room : ℕ) → Checked
-no_room places room = pick (ltb room places) (Refused Buffer) Accepted
+no_room places room = pick (ltb room places) (Err Buffer) (Ok tt)
 
 -- the wires that a table means are a legal wiring of rows a and b
 abbrev pub LegalRoute : (a b : List ℤ) (s : ℕ) (d : ℤ) (table : List ℤ) → Type 0

@@ -1,71 +1,70 @@
 // Drawing a route: the columns on which wires enter each track (01, "Drawing and checking"; 02, #106).
-ghost use Rattle.std.specs.Prelude.{◌≡◌, ◌++◌, ◌+◌, ◌*◌, ◌≤◌, ◌<◌, min, length, drop};
+ghost use Rattle.std.specs.Prelude.{Err, IfOk, IfErr, ◌≡◌, ◌++◌, ℕ, ◌+◌, ◌*◌, ◌≤◌, ◌<◌, length, drop};
 ghost use Rattle.wiring.specs.Wiring.{pad};
-ghost use Rattle.wiring.specs.Drawing.{rightward, leftward, entry};
+ghost use Rattle.wiring.specs.Drawing.{entry};
 ghost use Rattle.jumper.specs.Limits.{max_pairs, max_tracks};
-ghost use Rattle.jumper.specs.Rows.{AcceptedRow};
-ghost use Rattle.jumper.specs.Asked.{Asked};
+ghost use Rattle.jumper.specs.Asked.{check_asked, Asked};
 ghost use Rattle.route.specs.Table.{columns};
-ghost use Rattle.route.specs.Draw.{comes_first, wire_drawn, all_drawn, DrawWireAnswer, DrawAllAnswer};
+ghost use Rattle.route.specs.Draw.{wire_drawn, all_drawn, DrawWireAnswer, DrawAllAnswer, FitAsked};
 
-use crate::column::{going_left, going_right, top_pad};
+use crate::column::Wire;
 use fit::misfit::fit;
-use jumper::refusal::{Refusal, WIRE};
-use jumper::rows::Checked;
+use jumper::asked::Question;
+use jumper::refusal::Refusal;
+use jumper::rows::Rows;
 
-// Wire `wire` into s + 1 places: refusals 1 to 7, WIRE, BUFFER, NOFIT. `fit` looks at the rows, so they are looked at once.
-pub fn draw_wire(a: &[i32], b: &[i32], s: usize, d: i32, wire: usize, out: &mut [i32]) -> Checked
+// Wire `wire` into s + 1 places: refusals 1 to 7, WIRE, BUFFER, NOFIT.
+pub fn draw_wire(a: &[i32], b: &[i32], s: usize, d: i32, wire: usize, out: &mut [i32]) -> Result<(), Refusal>
     ensures { DrawWireAnswer a.now b.now s d wire out.old out.new result }
 {
-    let found = fit(a, b, s, d);
-    if comes_first(found) {
-        return found;
-    }
+    let (q, fits) = asked(a, b, s, d)?;
     if a.len() <= wire {
-        return Checked::Refused(Refusal::Wire);
+        return Err(Refusal::Wire);
     }
     if out.len() <= s {
-        return Checked::Refused(Refusal::Buffer);
+        return Err(Refusal::Buffer);
     }
-    match found {
-        Checked::Refused(r) => Checked::Refused(r),
-        Checked::Accepted => {
-            draw_columns(a, b, s, d, wire, out);
-            Checked::Accepted
-        }
-    }
+    fits?;
+    draw_columns(q, wire, out);
+    Ok(())
 }
 
 // All wires, wire after wire, into n(s + 1) places: refusals 1 to 7, BUFFER, NOFIT.
-pub fn draw_all(a: &[i32], b: &[i32], s: usize, d: i32, out: &mut [i32]) -> Checked
+pub fn draw_all(a: &[i32], b: &[i32], s: usize, d: i32, out: &mut [i32]) -> Result<(), Refusal>
     ensures { DrawAllAnswer a.now b.now s d out.old out.new result }
 {
-    let found = fit(a, b, s, d);
-    if comes_first(found) {
-        return found;
-    }
+    let (q, fits) = asked(a, b, s, d)?;
     if out.len() < places(a.len(), s) {
-        return Checked::Refused(Refusal::Buffer);
+        return Err(Refusal::Buffer);
     }
-    match found {
-        Checked::Refused(r) => Checked::Refused(r),
-        Checked::Accepted => {
-            draw_wires(a, b, s, d, out);
-            Checked::Accepted
-        }
+    fits?;
+    draw_wires(q, out);
+    Ok(())
+}
+
+// What `fit` says, its refusals 1 to 7 apart from NOFIT, before which others come. It looks at the rows, so they are looked at once.
+fn asked<'a>(a: &'a [i32], b: &'a [i32], s: usize, d: i32) -> Result<(Question<'a>, Result<(), Refusal>), Refusal>
+    ensures ok { IfOk result (λ p. FitAsked a.now b.now s d p.0.rows.bottom.now p.0.rows.top.now p.0.separation p.0.offset p.1) }
+    ensures err { IfErr result (λ r. check_asked a.now b.now s d ≡ Err r) }
+{
+    match fit(a, b, s, d) {
+        Ok(()) => Ok((accepted(a, b, s, d), Ok(()))),
+        Err(r) => match r {
+            Refusal::NoFit(..) => Ok((accepted(a, b, s, d), Err(r))),
+            _ => Err(r),
+        },
     }
 }
 
-// Whether a refusal of `fit` comes before WIRE and BUFFER: 1 to 7 do, NOFIT comes after them.
-fn comes_first(r: Checked) -> bool
-    ensures { result ≡ comes_first r }
+fn accepted<'a>(a: &'a [i32], b: &'a [i32], separation: usize, offset: i32) -> Question<'a>
+    requires { Asked a.now b.now separation offset }
+    ensures { (result.rows.bottom.now ≡ a.now) × (result.rows.top.now ≡ b.now) × (result.separation ≡ separation) × (result.offset ≡ offset) }
 {
-    match r {
-        Checked::Accepted => false,
-        Checked::Refused(f) => {
-            let k = f.numbers();
-            k.refusal < WIRE
-        }
+    let rows = Rows { bottom: a, top: b };
+    Question {
+        rows,
+        separation,
+        offset,
     }
 }
 
@@ -77,102 +76,47 @@ pub(crate) fn places(n: usize, s: usize) -> usize
     n * (s + 1)
 }
 
-fn fewer(x: usize, y: usize) -> usize
-    ensures { result ≡ min x y }
+// The columns of a wire: `column(t)` on track t where pads hold it, on the tracks below `held`, and straight up on column `end` from there.
+fn draw_held<F: Fn(usize) -> i32>(held: usize, column: F, end: i32, out: &mut [i32])
+    requires { (t : ℕ) → t < held → F.pre column t }
+    ensures held { (t : ℕ) → t < held → t < length out.old → F.post column t (pad out.new t) }
+    ensures free { (t : ℕ) → held ≤ t → t < length out.old → pad out.new t ≡ end }
 {
-    if x < y { x } else { y }
-}
-
-// The first k columns of a wire from pad i to column c, to its right, while pads hold it.
-fn held_right(a: &[i32], c: i32, i: usize, k: usize, out: &mut [i32])
-    requires { AcceptedRow a.now × (length a.now ≤ max_pairs) × (i + k ≤ length a.now) × (k ≤ length out.old) }
-    ensures { out.new ≡ columns (rightward (length a.now) (pad a.now) c i) k ++ drop k out.old }
-{
-    let mut t: usize = 0;
-    while t < k {
-        out[t] = going_right(a, c, i, t);
-        t += 1;
+    let held = held.min(out.len());
+    for (t, place) in out[..held].iter_mut().enumerate() {
+        *place = column(t);
     }
+    out[held..].fill(end);
 }
 
-// The same to its left.
-fn held_left(a: &[i32], c: i32, i: usize, k: usize, out: &mut [i32])
-    requires { AcceptedRow a.now × (length a.now ≤ max_pairs) × (i < length a.now) × (k ≤ i + 1) × (k ≤ length out.old) }
-    ensures { out.new ≡ columns (leftward (pad a.now) c i) k ++ drop k out.old }
+// 01's columns of a wire, as many as there is room for. The direction is chosen once for the whole wire.
+#[tactic(auto, using(crate::proofs::Wires::ways))]
+fn draw_entries(wire: Wire<'_>, out: &mut [i32])
+    ensures { (t : ℕ) → t < length out.old → pad out.new t ≡ entry (length wire.entry.row.now) (pad wire.entry.row.now) wire.entry.end wire.entry.pad t }
 {
-    let mut t: usize = 0;
-    while t < k {
-        out[t] = going_left(a, c, i, t);
-        t += 1;
-    }
-}
-
-// Where no pad holds it any more, the wire goes straight up.
-fn straight(c: i32, k: usize, out: &mut [i32])
-    requires { k ≤ length out.old }
-    ensures { out.new ≡ columns (λ t. c) k ++ drop k out.old }
-{
-    let mut t: usize = 0;
-    while t < k {
-        out[t] = c;
-        t += 1;
-    }
-}
-
-// The first k of 01's columns of a wire from pad i to column c, to its right.
-fn draw_right(a: &[i32], c: i32, i: usize, k: usize, out: &mut [i32])
-    requires { AcceptedRow a.now × (length a.now ≤ max_pairs) × (i < length a.now) × (k ≤ length out.old) }
-    ensures { out.new ≡ columns (rightward (length a.now) (pad a.now) c i) k ++ drop k out.old }
-{
-    let held = fewer(k, a.len() - i);
-    held_right(a, c, i, held, out);
-    straight(c, k - held, &mut out[held..]);
-}
-
-// The same to its left.
-fn draw_left(a: &[i32], c: i32, i: usize, k: usize, out: &mut [i32])
-    requires { AcceptedRow a.now × (length a.now ≤ max_pairs) × (i < length a.now) × (k ≤ length out.old) }
-    ensures { out.new ≡ columns (leftward (pad a.now) c i) k ++ drop k out.old }
-{
-    let held = fewer(k, i + 1);
-    held_left(a, c, i, held, out);
-    straight(c, k - held, &mut out[held..]);
-}
-
-// The first k of 01's columns of a wire from pad i to column c. The direction is chosen once for the whole wire.
-fn draw_entries(a: &[i32], c: i32, i: usize, k: usize, out: &mut [i32])
-    requires { AcceptedRow a.now × (length a.now ≤ max_pairs) × (i < length a.now) × (k ≤ length out.old) }
-    ensures { out.new ≡ columns (entry (length a.now) (pad a.now) c i) k ++ drop k out.old }
-{
-    if c < a[i] {
-        draw_left(a, c, i, k, out);
+    if wire.goes_left() {
+        draw_held(wire.pad + 1, |t| wire.left(t), wire.end, out);
     } else {
-        draw_right(a, c, i, k, out);
+        draw_held(wire.row.len() - wire.pad, |t| wire.right(t), wire.end, out);
     }
 }
 
 // Wire i into the first s + 1 places: its pad's column on track 0, and 01's columns above it. The first place is stored last: stored first, drawing was slower.
-fn draw_columns(a: &[i32], b: &[i32], s: usize, d: i32, i: usize, out: &mut [i32])
-    requires { Asked a.now b.now s d × (i < length a.now) × (s < length out.old) }
-    ensures { out.new ≡ wire_drawn a.now b.now s d i out.old }
+fn draw_columns(q: Question<'_>, i: usize, out: &mut [i32])
+    requires { (i < length q.rows.bottom.now) × (q.separation < length out.old) }
+    ensures { out.new ≡ wire_drawn q.entry.rows.bottom.now q.entry.rows.top.now q.entry.separation q.entry.offset i out.old }
 {
-    let c = top_pad(b, i, d);
-    draw_entries(a, c, i, s, &mut out[1..]);
-    out[0] = a[i];
+    draw_entries(Wire::of(q, i), &mut out[1..=q.separation]);
+    out[0] = q.rows.bottom[i];
 }
 
-// Wire after wire into the first n(s + 1) places. The place of the next wire is kept, so that no product is taken.
-fn draw_wires(a: &[i32], b: &[i32], s: usize, d: i32, out: &mut [i32])
-    requires { Asked a.now b.now s d × (length a.now * (s + 1) ≤ length out.old) }
-    ensures { out.new ≡ all_drawn a.now b.now s d out.old }
+// Wire after wire into the first n(s + 1) places.
+#[tactic(auto, using(crate::proofs::Places::none_drawn))]
+fn draw_wires(q: Question<'_>, out: &mut [i32])
+    requires { length q.rows.bottom.now * (q.separation + 1) ≤ length out.old }
+    ensures { out.new ≡ all_drawn q.entry.rows.bottom.now q.entry.rows.top.now q.entry.separation q.entry.offset out.old }
 {
-    let n = a.len();
-    let w = s + 1;
-    let mut at: usize = 0;
-    let mut i: usize = 0;
-    while i < n {
-        draw_columns(a, b, s, d, i, &mut out[at..]);
-        at += w;
-        i += 1;
+    for i in 0..q.rows.bottom.len() {
+        draw_columns(q, i, &mut out[places(i, q.separation)..]);
     }
 }

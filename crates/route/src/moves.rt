@@ -1,32 +1,17 @@
 // The frames 21 of a route, written as lines (01, "Sheets"): worked out as they are written, so that no table of the route is kept.
-ghost use Rattle.std.specs.Prelude.{◌<◌, length};
-ghost use Rattle.jumper.specs.Asked.{Asked};
+ghost use Rattle.std.specs.Prelude.{◌≡◌, ◌<◌, length};
 ghost use Rattle.route.specs.Moves.{move_text, TrackOut, WireOut, RouteOut, MovesOut};
 
-use crate::column::{column, top_pad};
+use crate::column::Wire;
 use frame::write::{Move, put_move};
-use jumper::asked::check_asked;
-use jumper::rows::Checked;
-use whole::differs;
+use jumper::asked::Question;
 
 // How far the frames have come: the wire and its track that are next, and the place after what was written.
-#[derive(Clone, Copy)]
+#[derive(Clone, Copy, Debug, PartialEq, Eq)]
 pub struct Reached {
     pub wire: usize,
     pub track: usize,
     pub at: usize,
-}
-
-#[derive(Clone, Copy)]
-struct Wrote {
-    done: bool,
-    at: usize,
-}
-
-#[derive(Clone, Copy)]
-struct OnWire {
-    track: usize,
-    at: usize,
 }
 
 // The frames 21 of line `line` from `wire` and its `track` on, from place `at` of the buffer on, as far as it has room for whole frames. Rows, a
@@ -44,9 +29,9 @@ pub fn give_moves(
 ) -> Reached
     ensures { MovesOut line s d a.now b.now wire track out.old at result.wire result.track result.at out.new }
 {
-    match check_asked(a, b, s, d) {
-        Checked::Accepted => give_wires(a, b, line, s, d, wire, track, out, at),
-        Checked::Refused(_) => Reached {
+    match Question::check(a, b, s, d) {
+        Ok(asked) => Moves { line, asked }.give(wire, track, &mut Writer { out, at }),
+        Err(_) => Reached {
             wire: a.len(),
             track: 0,
             at,
@@ -54,107 +39,88 @@ pub fn give_moves(
     }
 }
 
-// One track of a wire, if it runs there.
-fn give_track(m: Move, out: &mut [u8], at: usize) -> Wrote
-    ensures { TrackOut (move_text m) out.old at result.done result.at out.new }
-{
-    let from = m.from;
-    let to = m.to;
-    if differs(from, to) {
-        let p = put_move(out, at, m);
-        if p == at {
-            return Wrote { done: false, at };
-        }
-        return Wrote { done: true, at: p };
-    }
-    Wrote { done: true, at }
+// A buffer that frames are written into, and the place after the last one.
+#[derive(Drop)]
+struct Writer<'a> {
+    out: &'a mut [u8],
+    at: usize,
 }
 
-// One wire from track `track` on. A wire that has come to the column of its top pad stays there.
-fn give_wire(
-    a: &[i32],
-    b: &[i32],
-    line: u8,
-    s: usize,
-    d: i32,
-    i: usize,
-    track: usize,
-    out: &mut [u8],
-    at: usize,
-) -> OnWire
-    requires { Asked a.now b.now s d × (i < length a.now) }
-    ensures { WireOut line s d a.now b.now i track out.old at result.track result.at out.new }
-{
-    if s <= track {
-        return OnWire { track, at };
+impl Writer<'_> {
+    // A wire's frame on a track, if it runs there; false where there is no room for it.
+    fn put(&mut self, m: Move) -> bool
+        ensures same { (self.new.out.ghost_name ≡ self.old.out.ghost_name) × (length self.new.out.now ≡ length self.old.out.now) }
+        ensures wrote { TrackOut (move_text m) self.old.out.now self.old.at result self.new.at self.new.out.now }
+    {
+        if m.from == m.to {
+            return true;
+        }
+        let next = put_move(self.out, self.at, m);
+        if next == self.at {
+            return false;
+        }
+        self.at = next;
+        true
     }
-    let c = top_pad(b, i, d);
-    let mut t = track;
-    let mut p = at;
-    let mut x = column(a, c, i, t);
-    while t < s {
-        if differs(x, c) {
-            let y = column(a, c, i, t + 1);
-            let w = give_track(
-                Move {
-                    line,
+}
+
+// The route that is asked for, as frames of a line.
+#[derive(Clone, Copy)]
+struct Moves<'a> {
+    line: u8,
+    asked: Question<'a>,
+}
+
+impl Moves<'_> {
+    // The wires from `wire` and its `track` on.
+    fn give(self, wire: usize, track: usize, writer: &mut Writer<'_>) -> Reached
+        ensures same { (writer.new.out.ghost_name ≡ writer.old.out.ghost_name) × (length writer.new.out.now ≡ length writer.old.out.now) }
+        ensures wrote { RouteOut self.entry.line self.entry.asked.separation self.entry.asked.offset self.entry.asked.rows.bottom.now self.entry.asked.rows.top.now wire track writer.old.out.now writer.old.at result.wire result.track result.at writer.new.out.now }
+    {
+        let n = self.asked.rows.bottom.len();
+        let mut next = track;
+        for i in wire..n {
+            if let Some(track) = self.give_wire(i, next, writer) {
+                return Reached {
                     wire: i,
-                    track: t,
-                    from: x,
-                    to: y,
-                },
-                out,
-                p,
-            );
-            if w.done {
-                p = w.at;
-                x = y;
-                t += 1;
-            } else {
-                return OnWire { track: t, at: p };
+                    track,
+                    at: writer.at,
+                };
             }
-        } else {
-            return OnWire { track: s, at: p };
+            next = 0;
+        }
+        Reached {
+            wire: n,
+            track: 0,
+            at: writer.at,
         }
     }
-    OnWire { track: t, at: p }
-}
 
-// The wires from `wire` and its `track` on.
-fn give_wires(
-    a: &[i32],
-    b: &[i32],
-    line: u8,
-    s: usize,
-    d: i32,
-    wire: usize,
-    track: usize,
-    out: &mut [u8],
-    at: usize,
-) -> Reached
-    requires { Asked a.now b.now s d }
-    ensures { RouteOut line s d a.now b.now wire track out.old at result.wire result.track result.at out.new }
-{
-    let mut i = wire;
-    let mut t = track;
-    let mut p = at;
-    while i < a.len() {
-        let w = give_wire(a, b, line, s, d, i, t, out, p);
-        p = w.at;
-        t = w.track;
-        if t < s {
-            return Reached {
+    // One wire from track `track` on; the track that is next where there was no room for its frame. A wire that has come to the column of its top pad stays there.
+    fn give_wire(self, i: usize, track: usize, writer: &mut Writer<'_>) -> Option<usize>
+        requires { i < length self.asked.rows.bottom.now }
+        ensures same { (writer.new.out.ghost_name ≡ writer.old.out.ghost_name) × (length writer.new.out.now ≡ length writer.old.out.now) }
+        ensures wrote { WireOut self.entry.line self.entry.asked.separation self.entry.asked.offset self.entry.asked.rows.bottom.now self.entry.asked.rows.top.now i track writer.old.out.now writer.old.at result writer.new.at writer.new.out.now }
+    {
+        let wire = Wire::of(self.asked, i);
+        let mut from = wire.column(track);
+        for t in track..self.asked.separation {
+            if from == wire.end {
+                return None;
+            }
+            let to = wire.column(t + 1);
+            let moved = Move {
+                line: self.line,
                 wire: i,
                 track: t,
-                at: p,
+                from,
+                to,
             };
+            if !writer.put(moved) {
+                return Some(t);
+            }
+            from = to;
         }
-        i += 1;
-        t = 0;
-    }
-    Reached {
-        wire: i,
-        track: t,
-        at: p,
+        None
     }
 }

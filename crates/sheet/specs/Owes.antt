@@ -3,15 +3,17 @@
 -- `owes s line a b rest` is all that is still to come out, for any rest of the sheet. A fresh state owes `answers sheet`; each call hands out a
 -- part of what is owed and leaves a state that owes what is left. So whatever the pieces are, what comes out in all is `answers sheet`
 -- (the law `whole_sheet` of proofs/Feeds.antt, for runs that empty the buffer after each call).
-use Rattle.std.specs.Prelude.{Bool, true, false, cond, ◌≡◌, List, [], ◌∷◌, ◌++◌, ℕ, ◌+◌, ◌<◌, ◌≤◌, eqb, ltb, leb, length, take, drop, ℤ}
+use Rattle.std.specs.Prelude.{Bool, true, false, cond, ◌&&◌, ◌||◌, Option, None, Some, is_some, ◌≡◌, List, [], ◌∷◌, ◌++◌, ℕ, ◌+◌, ◌<◌, ◌≤◌, eqb, ltb, leb, length, take, drop, ℤ}
 use Rattle.jumper.specs.Limits.{max_pairs}
 use Rattle.jumper.specs.declared.refusal.Refusal.TheVariants.{Sequence}
 use Rattle.frame.specs.Frame.{Frame, bad, text_frame}
 use Rattle.frame.specs.Written.{answer_line}
+use Rattle.frame.specs.declared.write.Answer.{Answer}
 use Rattle.route.specs.Moves.{moves_left}
 use Rattle.events.specs.Events.{events}
 use Rattle.events.specs.Steps.{mode_of, seen_by}
 use Rattle.sheet.specs.Machine.{refusal_text, told, answers}
+use Rattle.sheet.specs.declared.state.Route.{Route}
 use Rattle.sheet.specs.declared.state.State.{State}
 
 -- the frames of what is left of a sheet, where the current line has this text so far; a last line without its line feed is bad
@@ -24,20 +26,23 @@ frames_from text [] = last_frame text
 frames_from text (b ∷ bs) = cond (eqb b 10) (text_frame text ∷ frames_from [] bs) (frames_from (text ++ (b ∷ [])) bs)
 
 -- what is still to write: the 20 of a line that was cut off, a 20, and the rest of a route, whose rows are in lent memory
-abbrev pub cut_text : State → List ℕ
-cut_text s = cond s.cut (refusal_text s.former Sequence) []
+abbrev pub cut_text : Option ℕ → List ℕ
+cut_text None = []
+cut_text (Some l) = refusal_text l Sequence
 
-abbrev pub due_text : State → List ℕ
-due_text s = cond s.due (answer_line s.answer) []
+abbrev pub due_text : Option Answer → List ℕ
+due_text None = []
+due_text (Some k) = answer_line k
 
-abbrev pub wired_text : State → List ℤ → List ℤ → List ℕ
-wired_text s a b = moves_left s.answer.line s.answer.separation s.answer.lowest a b s.wire s.track
+abbrev pub wired_text : Route → List ℤ → List ℤ → List ℕ
+wired_text r a b = moves_left r.line r.separation r.offset a b r.wire r.track
 
-unfoldable pub left_text : State → List ℤ → List ℤ → List ℕ
-left_text s a b = cond (leb s.wires max_pairs) (wired_text s (take s.wires a) (take s.wires b)) []
+unfoldable pub left_text : Option Route → List ℤ → List ℤ → List ℕ
+left_text None a b = []
+left_text (Some r) a b = cond (leb r.wires max_pairs) (wired_text r (take r.wires a) (take r.wires b)) []
 
 unfoldable pub pending : State → List ℤ → List ℤ → List ℕ
-pending s a b = cut_text s ++ (due_text s ++ left_text s a b)
+pending s a b = cut_text s.cut ++ (due_text s.due ++ left_text s.route a b)
 
 -- what will answer the events of the rest of the sheet
 unfoldable pub later : State → List ℕ → List ℤ → List ℤ → List ℕ → List ℕ
@@ -47,8 +52,12 @@ unfoldable pub owes : State → List ℕ → List ℤ → List ℤ → List ℕ 
 owes s line a b rest = pending s a b ++ later s line a b rest
 
 -- whether anything may be left to write
+abbrev pub has_wires : Option Route → Bool
+has_wires None = false
+has_wires (Some r) = leb r.wires max_pairs && ltb r.wire r.wires
+
 unfoldable pub is_busy : State → Bool
-is_busy s = cond s.cut true (cond s.due true (cond (leb s.wires max_pairs) (ltb s.wire s.wires) false))
+is_busy s = is_some s.cut || is_some s.due || has_wires s.route
 
 -- What `fresh` promises.
 pub record Fresh (s : State) : Type 0 where

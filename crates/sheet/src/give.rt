@@ -1,13 +1,12 @@
 // What is still to write, into a lent buffer.
-ghost use Rattle.std.specs.Prelude.{◌≡◌, false, ◌≤◌, length};
-ghost use Rattle.jumper.specs.Limits.{max_pairs};
-ghost use Rattle.sheet.specs.Owes.{Given};
-ghost use Rattle.sheet.specs.Parts.{CutGiven, DueGiven};
+ghost use Rattle.std.specs.Prelude.{◌≡◌};
+ghost use Rattle.sheet.specs.Owes.{cut_text, due_text, Given};
+ghost use Rattle.sheet.specs.Parts.{AnswerGiven};
 
-use crate::state::{State, show};
-use frame::write::put_answer;
+use crate::state::{Route, State, show};
+use frame::write::{Answer, put_answer};
 use jumper::limits::MAX_PAIRS;
-use jumper::refusal::Refusal;
+use jumper::refusal::{Numbers, Refusal};
 use route::moves::give_moves;
 
 // A state, and the place after what was written.
@@ -17,92 +16,64 @@ pub struct Giving {
     pub n: usize,
 }
 
-// The route of the first n columns of both rows, if they are accepted with its separation and offset.
-fn give_route(a: &[i32], b: &[i32], s: State, out: &mut [u8], at: usize) -> Giving
-    requires { (s.cut ≡ false) × (s.due ≡ false) × (s.wires ≤ length a.now) × (s.wires ≤ length b.now) × (s.wires ≤ max_pairs) }
-    ensures { Given s a.now b.now out.old at result.s result.n out.new }
+// The 20 of a line that was cut off.
+#[tactic(auto, unfolding(crate::specs::Machine::refusal_text))]
+fn cut_answer(cut: Option<u8>) -> Option<Answer>
+    ensures { due_text result ≡ cut_text cut }
 {
-    let n = s.wires;
-    let k = s.answer;
-    let r = give_moves(
-        &a[..n],
-        &b[..n],
-        k.line,
-        k.separation,
-        k.lowest,
-        s.wire,
-        s.track,
-        out,
-        at,
-    );
-    let mut t = s;
-    t.wire = r.wire;
-    t.track = r.track;
-    Giving { s: t, n: r.at }
+    cut.map(|line| show(line, Numbers::from(Refusal::Sequence)))
 }
 
-fn give_cut(s: State, out: &mut [u8], at: usize) -> Giving
-    ensures { CutGiven s out.old at result.s result.n out.new }
+// A frame 20, if there is one, written from place `at` of the buffer on: the place after it, none where it has no room.
+#[tactic(auto, using(crate::proofs::Gives::answer_full, crate::proofs::Gives::answer_put))]
+fn give_answer(k: Option<Answer>, out: &mut [u8], at: usize) -> Option<usize>
+    ensures { AnswerGiven k out.old at result out.new }
 {
-    if s.cut {
-        let p = put_answer(out, at, show(s.former, Refusal::Sequence.numbers()));
-        if p == at {
-            return Giving { s, n: at };
-        }
-        let mut t = s;
-        t.cut = false;
-        return Giving { s: t, n: p };
-    }
-    Giving { s, n: at }
-}
-
-fn give_due(s: State, out: &mut [u8], at: usize) -> Giving
-    requires { s.cut ≡ false }
-    ensures { DueGiven s out.old at result.s result.n out.new }
-{
-    if s.due {
-        let k = s.answer;
-        let p = put_answer(out, at, k);
-        if p == at {
-            return Giving { s, n: at };
-        }
-        let mut t = s;
-        t.due = false;
-        return Giving { s: t, n: p };
-    }
-    Giving { s, n: at }
-}
-
-// Over slices, whose lengths are told.
-fn give_all(a: &[i32], b: &[i32], s: State, out: &mut [u8], at: usize) -> Giving
-    requires { (length a.now ≡ max_pairs) × (length b.now ≡ max_pairs) }
-    ensures { Given s a.now b.now out.old at result.s result.n out.new }
-{
-    let g = give_cut(s, out, at);
-    let st = g.s;
-    if st.cut {
-        return g;
-    }
-    let h = give_due(st, out, g.n);
-    let su = h.s;
-    if su.due {
-        return h;
-    }
-    if su.wires <= MAX_PAIRS {
-        return give_route(a, b, su, out, h.n);
-    }
-    h
+    let Some(k) = k else {
+        return Some(at);
+    };
+    let p = put_answer(out, at, k);
+    if p == at { None } else { Some(p) }
 }
 
 // Writes what is still to write from place `at` of the buffer on, as far as it has room for whole frames.
 pub fn give(
     a: &[i32; MAX_PAIRS],
     b: &[i32; MAX_PAIRS],
-    s: State,
+    mut s: State,
     out: &mut [u8],
     at: usize,
 ) -> Giving
     ensures { Given s a.now b.now out.old at result.s result.n out.new }
 {
-    give_all(a, b, s, out, at)
+    let Some(p) = give_answer(cut_answer(s.cut), out, at) else {
+        return Giving { s, n: at };
+    };
+    s.cut = None;
+    let Some(q) = give_answer(s.due, out, p) else {
+        return Giving { s, n: p };
+    };
+    s.due = None;
+    match s.route {
+        Some(r) if r.wires <= MAX_PAIRS => {
+            let m = give_moves(
+                &a[..r.wires],
+                &b[..r.wires],
+                r.line,
+                r.separation,
+                r.offset,
+                r.wire,
+                r.track,
+                out,
+                q,
+            );
+            s.route = Some(Route {
+                wire: m.wire,
+                track: m.track,
+                ..r
+            });
+            Giving { s, n: m.at }
+        }
+        _ => Giving { s, n: q },
+    }
 }

@@ -4,7 +4,6 @@
 
 pub mod feed;
 pub mod give;
-mod line_end;
 mod planned;
 pub mod state;
 mod step;

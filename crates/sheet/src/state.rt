@@ -1,7 +1,7 @@
 // The state of a sheet, and the states that it goes to.
 ghost use Rattle.std.specs.Prelude.{◌≡◌};
 ghost use Rattle.sheet.specs.Machine.{shown};
-ghost use Rattle.sheet.specs.Steps.{no_answer, owing, quiet, complete, after};
+ghost use Rattle.sheet.specs.Steps.{owing, complete, after};
 ghost use Rattle.sheet.specs.Owes.{Fresh, Busy};
 
 use events::machine::Machine;
@@ -9,79 +9,43 @@ use events::step::{Did, Step};
 use frame::read::Order;
 use frame::write::Answer;
 use jumper::limits::MAX_PAIRS;
-use jumper::refusal::{Numbers, Refusal};
+use jumper::refusal::Numbers;
 
-// The first `at` places of the lent line hold the text of the current line; the rows of the machine's open line are lent too. Still to write: if `cut`,
-// a 20 with SEQUENCE for the line `former`; if `due`, the 20 `answer`; then, of a line not refused, the frames 21 of `wires` wires from `wire` and
+// The rest of a route, as frames 21 of a line: drawn at this separation and offset through the first `wires` columns of the lent rows, from `wire` and
 // its `track` on.
 #[derive(Clone, Copy)]
-pub struct State {
-    pub at: usize,
-    pub machine: Machine,
-    pub cut: bool,
-    pub former: u8,
-    pub due: bool,
-    pub answer: Answer,
+pub struct Route {
+    pub line: u8,
+    pub separation: usize,
+    pub offset: i32,
     pub wires: usize,
     pub wire: usize,
     pub track: usize,
 }
 
-fn no_answer() -> Answer
-    ensures { result ≡ no_answer }
-{
-    Answer {
-        line: 0,
-        refusal: 0,
-        separation: 0,
-        lowest: 0,
-        highest: 0,
-        pair: 0,
-        side: 0,
-    }
+// The first `at` places of the lent line hold the text of the current line; the rows of the machine's open line are lent too. Still to write, in this
+// order: a 20 with SEQUENCE for the line that a header `cut` off; the 20 that is `due`; a `route`.
+#[derive(Clone, Copy)]
+pub struct State {
+    pub at: usize,
+    pub machine: Machine,
+    pub cut: Option<u8>,
+    pub due: Option<Answer>,
+    pub route: Option<Route>,
 }
 
 // A sheet of which nothing was taken in.
+#[tactic(auto, using(crate::proofs::Steps::fresh_owes), unfolding(crate::specs::Owes::pending, crate::specs::Owes::left_text))]
 pub fn fresh() -> State
     ensures { Fresh result }
 {
-    let machine = events::machine::fresh();
-    let answer = no_answer();
     State {
         at: 0,
-        machine,
-        cut: false,
-        former: 0,
-        due: false,
-        answer,
-        wires: 0,
-        wire: 0,
-        track: 0,
+        machine: events::machine::fresh(),
+        cut: None,
+        due: None,
+        route: None,
     }
-}
-
-// After a step: the 20 of a line that it cut off, if `due` a 20, and the wires of a route.
-fn owe(t: Step, due: bool, answer: Answer, wires: usize) -> State
-    ensures { result ≡ owing t due answer wires }
-{
-    let machine = t.machine;
-    State {
-        at: 0,
-        machine,
-        cut: t.cut,
-        former: t.former,
-        due,
-        answer,
-        wires,
-        wire: 0,
-        track: 0,
-    }
-}
-
-fn say_nothing(t: Step) -> State
-    ensures { result ≡ quiet t }
-{
-    owe(t, false, no_answer(), 0)
 }
 
 // The 20 of a line.
@@ -99,42 +63,51 @@ pub(crate) fn show(line: u8, k: Numbers) -> Answer
     }
 }
 
-// What a step calls for that completes no line.
-pub(crate) fn on_step(t: Step) -> State
-    ensures { result ≡ after t t.did }
-{
-    let did = t.did;
-    match did {
-        Did::Opened => say_nothing(t),
-        Did::Filled => say_nothing(t),
-        Did::Completed(_) => say_nothing(t),
-        Did::Refused(line, r) => owe(t, true, show(line, r.numbers()), 0),
-        Did::Passed => say_nothing(t),
+impl State {
+    // After a step: the 20 of a line that it cut off is to be written, a 20 and a route.
+    fn owe(&mut self, t: Step, due: Option<Answer>, route: Option<Route>)
+        ensures { self.new ≡ owing t due route }
+    {
+        self.at = 0;
+        self.machine = t.machine;
+        self.cut = t.cut;
+        self.due = due;
+        self.route = route;
     }
-}
 
-// What a complete line is answered.
-pub(crate) fn done(t: Step, o: Order, k: Numbers) -> State
-    ensures { result ≡ complete t o k }
-{
-    if k.refusal == 0 {
-        return owe(t, true, show(o.line, k), o.pairs);
+    // What a step calls for that completes no line.
+    pub(crate) fn take_step(&mut self, t: Step)
+        ensures { self.new ≡ after t }
+    {
+        match t.did {
+            Did::Refused(line, r) => self.owe(t, Some(show(line, Numbers::from(r))), None),
+            _ => self.owe(t, None, None),
+        }
     }
-    owe(t, true, show(o.line, k), 0)
+
+    // What a complete line is answered: its 20, and its route if it isn't refused.
+    pub(crate) fn complete(&mut self, t: Step, o: Order, k: Numbers)
+        ensures { self.new ≡ complete t o k }
+    {
+        let route = Route {
+            line: o.line,
+            separation: k.separation,
+            offset: k.lowest,
+            wires: o.pairs,
+            wire: 0,
+            track: 0,
+        };
+        self.owe(t, Some(show(o.line, k)), (k.refusal == 0).then_some(route));
+    }
 }
 
 // Whether anything may be left to write. If not, nothing is owed but what the rest of the sheet brings.
+#[tactic(auto, using(crate::proofs::Steps::busy_told), unfolding(crate::specs::Owes::is_busy))]
 pub fn busy(s: State) -> bool
     ensures { Busy s result }
 {
-    if s.cut {
-        return true;
-    }
-    if s.due {
-        return true;
-    }
-    if s.wires <= MAX_PAIRS {
-        return s.wire < s.wires;
-    }
-    false
+    s.cut.is_some()
+        || s.due.is_some()
+        || s.route
+            .is_some_and(|r| r.wires <= MAX_PAIRS && r.wire < r.wires)
 }

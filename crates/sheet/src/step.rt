@@ -3,26 +3,23 @@ ghost use Rattle.frame.specs.Frame.{text_frame};
 ghost use Rattle.sheet.specs.Parts.{Reacted};
 
 use crate::planned::plan_first;
-use crate::state::{State, done, on_step};
+use crate::state::State;
 use events::step::{Did, on_text};
 use jumper::limits::MAX_PAIRS;
 
 // A whole line, by its text: all before its line feed.
+#[tactic(auto, using(crate::proofs::Steps::plain_reacted, crate::proofs::Steps::completes_reacted))]
 pub(crate) fn take_text(
     text: &[u8],
     a: &mut [i32; MAX_PAIRS],
     b: &mut [i32; MAX_PAIRS],
-    s: State,
-) -> State
-    ensures { Reacted s a.old b.old (text_frame text.now) result a.new b.new }
+    s: &mut State,
+)
+    ensures { Reacted s.old a.old b.old (text_frame text.now) s.new a.new b.new }
 {
     let t = on_text(text, a, b, s.machine);
-    let did = t.did;
-    match did {
-        Did::Completed(o) => done(t, o, plan_first(a, b, o.pairs, o.separation, o.offset)),
-        Did::Opened => on_step(t),
-        Did::Filled => on_step(t),
-        Did::Refused(_, _) => on_step(t),
-        Did::Passed => on_step(t),
+    match t.did {
+        Did::Completed(o) => s.complete(t, o, plan_first(a, b, o)),
+        _ => s.take_step(t),
     }
 }

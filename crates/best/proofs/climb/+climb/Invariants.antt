@@ -2,4 +2,4 @@
 use Rattle.best.proofs.climb.+climb.Given as goal
 
 abbrev pub decreases-climb : goal.decreases-climb
-decreases-climb l = l.entries.len
+decreases-climb l = l.entries.now.len

@@ -8,15 +8,15 @@ pub loop-i-init : goal.loop-i-init
 loop-i-init c =
     let a = c.args in
     record {
-      low = back _ c.difference-low.type_inv ∙ c.difference-low.ensures ∙ low_first a.rows.bottom.now a.rows.top.now a.step a.gap;
-      high = back _ c.difference-high.type_inv ∙ c.difference-high.ensures ∙ high_first a.rows.bottom.now a.rows.top.now a.step a.gap;
+      low = back _ c.difference-low.type_inv ∙ c.difference-low.ensures ∙ low_first a.rows.now.bottom.now a.rows.now.top.now a.step a.gap;
+      high = back _ c.difference-high.type_inv ∙ c.difference-high.ensures ∙ high_first a.rows.now.bottom.now a.rows.now.top.now a.step a.gap;
     }
 
 pub loop-i-preserved : goal.loop-i-preserved
 loop-i-preserved c =
     let a = c.args in
-    let lows = low_read a.rows.bottom.now a.rows.top.now a.step a.gap in
-    let highs = high_read a.rows.bottom.now a.rows.top.now a.step a.gap in
+    let lows = low_read a.rows.now.bottom.now a.rows.now.top.now a.step a.gap in
+    let highs = high_read a.rows.now.bottom.now a.rows.now.top.now a.step a.gap in
     let l = rw (back _ c.difference.type_inv) at c.max-low.ensures.value in
     let h = rw (back _ c.difference-in-loop-i.type_inv) at c.min-high.ensures.value in
     record {

@@ -1,29 +1,11 @@
-use Rattle.std.proofs.Common.{refl, sym, ◌∙◌, arith, rules}
-use Rattle.events.proofs.Steps.{held, next, bottom_in, bottom_out}
+use Rattle.events.proofs.Steps.{held, bottom_in, bottom_out}
 use Rattle.events.proofs.step.on_bottom.Goals as goal
 
-pub is_next-requires : goal.is_next-requires
-is_next-requires c = let h = held c.args.m c.requires.0 in omega arith
+pub fill-requires : goal.fill-requires
+fill-requires c = let h = held _ _ c.requires.0 in (h.bottom, h.few, c.requires.1)
 
-pub put-requires : goal.put-requires
-put-requires c =
-    let h = held c.args.m c.requires.0 in
-    let n = next c.args.m.order _ _ _ (sym c.is_next.ensures ∙ c.if-is_next.true) in
-    omega arith
-
-pub overflow_add-bottom : goal.overflow_add-bottom
-overflow_add-bottom c = let h = held c.args.m c.requires.0 in search rules
-
-pub returns-then-is_next : goal.returns-then-is_next
-returns-then-is_next c = λ b tall.
-    bottom_in c.args.m _ _ _ _ _ _ c.requires.0 c.requires.2 c.requires.3 b tall
-    (sym c.is_next.ensures ∙ c.if-is_next.true)
-    c.step_to.ensures
-    c.put.ensures
+pub returns-in_default : goal.returns-in_default
+returns-in_default c = λ b tall. bottom_out c.args.here (held _ _ c.requires.0) _ _ _ _ _ _ c.told-a b tall c.in_default.ensures c.refuse.ensures
 
 pub returns : goal.returns
-returns c = λ b tall.
-    bottom_out c.args.m _ _ _ _ _ _ c.requires.0 c.requires.2 c.requires.3 b tall
-    (sym c.is_next.ensures ∙ c.if-is_next.false)
-    c.refuse.ensures
-    refl
+returns c = λ b tall. bottom_in c.args.here (held _ _ c.requires.0) _ _ _ _ _ _ c.told-a b tall _ c.in-Some.ensures c.go.ensures

@@ -1,9 +1,9 @@
-use Rattle.std.proofs.Common.{sym, ◌∙◌}
+use Rattle.std.proofs.Common.{sym}
 use Rattle.events.proofs.Steps.{inside_end, outside_end}
 use Rattle.events.proofs.step.on_end.Goals as goal
 
-pub returns-then-is_inside : goal.returns-then-is_inside
-returns-then-is_inside c = record { told = λ a b. inside_end c.args.m a b _ (sym c.is_inside.ensures ∙ c.if-is_inside.true) c.refuse.ensures }
+pub returns-in-Some : goal.returns-in-Some
+returns-in-Some c = record { told = λ a b. inside_end c.args.m a b _ c.in-Some.here (sym c.in-Some.ensures) c.refuse.ensures }
 
-pub returns : goal.returns
-returns c = record { told = λ a b. outside_end c.args.m a b _ (sym c.is_inside.ensures ∙ c.if-is_inside.false) c.pass.ensures }
+pub returns-in-None : goal.returns-in-None
+returns-in-None c = record { told = λ a b. outside_end c.args.m a b _ (sym c.in-None.ensures) c.pass.ensures }

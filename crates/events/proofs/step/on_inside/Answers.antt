@@ -1,32 +1,20 @@
-use Rattle.std.proofs.Common.{refl, sym, ◌∙◌, arith}
-use Rattle.events.proofs.Steps.{few_said, still_wide, read_frame, inside_bad, inside_header, inside_bottom, inside_top}
+use Rattle.events.proofs.Steps.{inside_bad, inside_header, inside_bottom, inside_top}
 use Rattle.events.proofs.step.on_inside.Goals as goal
 
-pub on_bottom-requires : goal.on_bottom-requires
-on_bottom-requires c =
-    let k = few_said c.args.text.now _ (sym c.in-Bottom.is ∙ c.read_text.ensures.said) in
-    let w = still_wide c.read_text.ensures in (c.requires.0, k, omega arith, c.requires.1)
+pub returns-in-Some-Header : goal.returns-in-Some-Header
+returns-in-Some-Header c =
+    let e = rw c.in-Some-Header.is at c.in-Some-Header.field-0-is in
+    rw (c.in-Some-Header.is, e) (inside_header c.args.m c.args.here _ _ c.requires.0 c.told-a c.told-b _ _ (rw c.head.ensures at c.cut_off.ensures))
 
-pub on_top-requires : goal.on_top-requires
-on_top-requires c =
-    let k = few_said c.args.text.now _ (sym c.in-Top.is ∙ c.read_text.ensures.said) in
-    let w = still_wide c.read_text.ensures in (c.requires.0, k, omega arith, c.requires.2)
+pub returns-in-Some-Bottom : goal.returns-in-Some-Bottom
+returns-in-Some-Bottom c =
+    let e = rw c.in-Some-Bottom.is at c.in-Some-Bottom.field-0-is in
+    rw (c.in-Some-Bottom.is, e) (inside_bottom c.args.m c.args.here _ _ c.requires.0 c.told-a c.told-b _ _ _ _ c.on_bottom.ensures)
 
-pub returns-in-Bad : goal.returns-in-Bad
-returns-in-Bad c =
-    rw (read_frame c.args.text.now _ _ _ _ refl c.read_text.ensures c.in-Bad.is) (inside_bad c.args.m _ _ _ c.requires.0 c.refuse.ensures)
+pub returns-in-Some-Top : goal.returns-in-Some-Top
+returns-in-Some-Top c =
+    let e = rw c.in-Some-Top.is at c.in-Some-Top.field-0-is in
+    rw (c.in-Some-Top.is, e) (inside_top c.args.m c.args.here _ _ c.requires.0 c.told-a c.told-b _ _ _ _ c.on_top.ensures)
 
-pub returns-in-Header : goal.returns-in-Header
-returns-in-Header c =
-    rw (read_frame c.args.text.now _ _ _ _ refl c.read_text.ensures c.in-Header.is)
-    (inside_header c.args.m _ _ c.requires.0 c.requires.1 c.requires.2 _ _ (rw c.head.ensures at c.cut_off.ensures))
-
-pub returns-in-Bottom : goal.returns-in-Bottom
-returns-in-Bottom c =
-    rw (read_frame c.args.text.now _ _ _ _ refl c.read_text.ensures c.in-Bottom.is)
-    (inside_bottom c.args.m _ _ c.requires.0 c.requires.1 c.requires.2 _ _ _ _ _ c.on_bottom.ensures)
-
-pub returns-in-Top : goal.returns-in-Top
-returns-in-Top c =
-    rw (read_frame c.args.text.now _ _ _ _ refl c.read_text.ensures c.in-Top.is)
-    (inside_top c.args.m _ _ c.requires.0 c.requires.1 c.requires.2 _ _ _ _ _ c.on_top.ensures)
+pub returns-in-None : goal.returns-in-None
+returns-in-None c = rw c.in-None.is (inside_bad c.args.m _ _ _ c.args.here c.requires.0 c.refuse.ensures)

@@ -1,47 +1,19 @@
-use Rattle.std.proofs.Common.{refl, sym, ◌∙◌, arith, rules}
-use Rattle.events.proofs.Steps.{held, next, top_full, top_in, top_out, top_early}
+use Rattle.std.proofs.Common.{refl, arith}
+use Rattle.events.proofs.Steps.{held, top_full, top_in, top_out, top_early}
 use Rattle.events.proofs.step.on_top.Goals as goal
 
-pub is_next-requires : goal.is_next-requires
-is_next-requires c = let h = held c.args.m c.requires.0 in omega arith
+pub returns-then-here-order : goal.returns-then-here-order
+returns-then-here-order c = λ a tall. top_early c.args.here (held _ _ c.requires.0) _ _ _ _ _ _ c.told-b a tall c.if-here-order.true c.refuse.ensures refl
 
-pub put-requires : goal.put-requires
-put-requires c =
-    let h = held c.args.m c.requires.0 in
-    let n = next c.args.m.order _ _ _ (sym c.is_next.ensures ∙ c.if-is_next.true) in
-    omega arith
+pub fill-requires : goal.fill-requires
+fill-requires c = let h = held _ _ c.requires.0 in (h.top, h.few, c.requires.1)
 
-pub overflow_add-top : goal.overflow_add-top
-overflow_add-top c = let h = held c.args.m c.requires.0 in search rules
+pub returns-in-Some : goal.returns-in-Some
+returns-in-Some c =
+  λ a tall. top_full c.args.here (held _ _ c.requires.0) _ _ _ _ _ _ c.told-b a tall c.if-here-order.false _ c.in-Some.ensures (omega arith) c.go.ensures
 
-pub returns-then-top-k : goal.returns-then-top-k
-returns-then-top-k c = λ a tall.
-    top_full c.args.m _ _ _ _ _ _ c.requires.0 c.requires.2 c.requires.3 a tall
-    c.if-m-order.true
-    (sym c.is_next.ensures ∙ c.if-is_next.true)
-    c.if-top-k.true
-    (rw c.no_order.ensures at c.step_to.ensures)
-    c.put.ensures
+pub returns-in-Some-2 : goal.returns-in-Some-2
+returns-in-Some-2 c = λ a tall. top_in c.args.here (held _ _ c.requires.0) _ _ _ _ _ _ c.told-b a tall c.if-here-order.false _ c.in-Some.ensures (λ q. omega arith) c.go-in-Some-2.ensures
 
-pub overflow_add-top-then-is_next : goal.overflow_add-top-then-is_next
-overflow_add-top-then-is_next c = let h = held c.args.m c.requires.0 in search rules
-
-pub returns-then-is_next : goal.returns-then-is_next
-returns-then-is_next c = λ a tall.
-    top_in c.args.m _ _ _ _ _ _ c.requires.0 c.requires.2 c.requires.3 a tall
-    c.if-m-order.true
-    (sym c.is_next.ensures ∙ c.if-is_next.true)
-    c.if-top-k.false
-    c.step_to-then-is_next.ensures
-    c.put.ensures
-
-pub returns-then-m-order : goal.returns-then-m-order
-returns-then-m-order c = λ a tall.
-    top_out c.args.m _ _ _ _ _ _ c.requires.0 c.requires.2 c.requires.3 a tall
-    c.if-m-order.true
-    (sym c.is_next.ensures ∙ c.if-is_next.false)
-    c.refuse.ensures
-    refl
-
-pub returns : goal.returns
-returns c = λ a tall. top_early c.args.m _ _ _ _ _ _ c.requires.0 c.requires.2 c.requires.3 a tall c.if-m-order.false c.refuse-2.ensures refl
+pub returns-in-None : goal.returns-in-None
+returns-in-None c = λ a tall. top_out c.args.here (held _ _ c.requires.0) _ _ _ _ _ _ c.told-b a tall c.if-here-order.false c.in-None.ensures c.refuse-in-None.ensures

@@ -1,4 +1,4 @@
-use Rattle.std.proofs.Common.{sym, ◌∙◌}
+use Rattle.std.proofs.Common.{sym, ◌∙◌, arith}
 use Rattle.jumper.proofs.Checks.{passed_on, accepted_tracks}
 use Rattle.jumper.proofs.Wired.{tracks_rule}
 use Rattle.fit.proofs.Spans.{range_refused, range_answer}
@@ -10,9 +10,9 @@ returns-in_err-check_tracks c = rw (passed_on _ c.from_residual.ensures.1) (rang
 pub range_found-requires : goal.range_found-requires
 range_found-requires c =
     let k = accepted_tracks c.args.a.now c.args.b.now c.args.s (sym c.check_tracks.ensures.answer ∙ c.in_ok-check_tracks.was) in
-    rw c.rule_at.ensures (tracks_rule k).tracks
+    omega (arith, k.tracks, (tracks_rule k).tracks, c.rule_at-r.ensures)
 
 pub returns : goal.returns
 returns c =
     let k = accepted_tracks c.args.a.now c.args.b.now c.args.s (sym c.check_tracks.ensures.answer ∙ c.in_ok-check_tracks.was) in
-    rw (c.range_found.ensures, c.rule_at.ensures) (range_answer c.args.a.now c.args.b.now c.args.s k)
+    rw c.range_found.ensures (rw (sym c.rule_at-r.ensures) at (range_answer c.args.a.now c.args.b.now c.args.s k))

@@ -1,11 +1,9 @@
 use Rattle.std.proofs.Common.{rules, w32}
 use Rattle.std.proofs.lemmas.Int.{to_z-of_z}
-use Rattle.form.proofs.Lines.{within, line_planned}
+use Rattle.form.proofs.Lines.{line_planned}
 use Rattle.form.proofs.line.answer.Goals as goal
 
 pub returns : goal.returns
 returns c =
     let e = to_z-of_z w32 c.args.line.order.offset (search rules) in
-    line_planned _ _ _ _ _ (within _ _ _ c.runs_out.ensures c.if-runs_out.false c.runs_out-2.ensures c.if-runs_out-2.false)
-    (rw e at c.wish_of.ensures)
-    c.plan.ensures
+    line_planned _ _ _ _ _ _ _ (rw c.in_ok-a.ensures.ok_part at c.pads.ensures) (rw c.in_ok-b.ensures.ok_part at c.pads-2.ensures) (rw e at c.wish_of.ensures) c.plan.ensures

@@ -1,10 +1,7 @@
--- The loop's invariant: of the first k pads those that stay stand in the first `at` places.
-use Rattle.std.proofs.Common.{◌-◌, ◌≤◌, length}
+-- The loop's invariant: of the pads that were passed, those that stay stand in the first `at` places.
+use Rattle.std.proofs.Common.{length}
 use Rattle.parts.proofs.Copies.{Filled}
 use Rattle.parts.proofs.keep.keep_pads.Given as goal
 
-abbrev pub invariant-loop-k : goal.invariant-loop-k
-invariant-loop-k l = (l.k ≤ length l.stays) × Filled l.stays l.row l.initial.out l.at l.k l.out
-
-abbrev pub decreases-loop-k : goal.decreases-loop-k
-decreases-loop-k l = length l.stays - l.k
+abbrev pub invariant-loop-pad : goal.invariant-loop-pad
+invariant-loop-pad l = Filled l.stays l.row l.initial.out l.at (length l.yielded) l.out

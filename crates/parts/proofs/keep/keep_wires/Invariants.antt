@@ -1,10 +1,14 @@
--- The loop's invariant: the wires that stay of the first pairs stand in the buffer, `place` is the place after them, and `from` the next pair's in the table.
-use Rattle.std.proofs.Common.{◌-◌, ◌≤◌, length}
-use Rattle.parts.proofs.Copies.{Held}
+-- The loop's invariant: the wires that stay of those that were passed stand in the buffer, `place` is the place after them, and the others come.
+use Rattle.std.proofs.Common.{length, ◌≡◌, ◌+◌}
+use Rattle.std.specs.Iterator.Adapters.{zip_first, zip_second}
+use Rattle.std.specs.Slice.Iter.{iter_rest, chunks_exact_rest, chunks_exact_size}
+use Rattle.parts.proofs.Copies.{Coming, Held}
 use Rattle.parts.proofs.keep.keep_wires.Given as goal
 
-abbrev pub invariant-loop-pair : goal.invariant-loop-pair
-invariant-loop-pair l = (l.pair ≤ length l.stays) × Held l.stays l.s l.table l.initial.out l.from l.place l.pair l.out
-
-abbrev pub decreases-loop-pair : goal.decreases-loop-pair
-decreases-loop-pair l = length l.stays - l.pair
+abbrev pub invariant-loop-wire : goal.invariant-loop-wire
+invariant-loop-wire l =
+    record {
+      size : chunks_exact_size (zip_first l.wire-iterator) ≡ l.s + 1;
+      coming : Coming l.stays l.s l.table (length l.yielded) (chunks_exact_rest (zip_first l.wire-iterator)) (iter_rest (zip_second l.wire-iterator));
+      held : Held l.stays l.s l.table l.initial.out l.place (length l.yielded) l.out;
+    }

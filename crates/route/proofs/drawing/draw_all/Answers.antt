@@ -1,38 +1,18 @@
-use Rattle.std.proofs.Common.{sym, ◌∙◌, w32}
+use Rattle.std.proofs.Common.{w32}
 use Rattle.std.proofs.lemmas.Int.{to_z-of_z}
-use Rattle.jumper.proofs.Checks.{accepted_asked}
-use Rattle.route.proofs.Answers.{unasked, asked, all_early, all_short, all_misfit, all_done_lem}
+use Rattle.jumper.proofs.Checks.{passed_on}
+use Rattle.route.proofs.Answers.{all_early, all_misfit, all_done_lem}
 use Rattle.route.proofs.drawing.draw_all.Goals as goal
 
-pub returns-then-comes_first : goal.returns-then-comes_first
-returns-then-comes_first c =
-    let ed = to_z-of_z w32 c.args.d c.ranges.d in
-    let q = unasked _ _ _ _ _ (rw ed at c.fit-found.ensures) (sym c.comes_first.ensures ∙ c.if-comes_first.true) in
-    rw q.1 (all_early _ _ _ _ _ q.0 q.2)
+pub returns-in_err-q : goal.returns-in_err-q
+returns-in_err-q c = rw (passed_on _ c.from_residual.ensures.1) (all_early _ _ _ _ _ _ (rw (to_z-of_z w32 c.args.d c.ranges.d) at c.in_err-q.ensures.err))
 
-pub places-requires : goal.places-requires
-places-requires c =
-    let ed = to_z-of_z w32 c.args.d c.ranges.d in
-    let e = asked _ _ _ _ _ (rw ed at c.fit-found.ensures) (sym c.comes_first.ensures ∙ c.if-comes_first.false) in
-    let g = accepted_asked c.args.a.now c.args.b.now c.args.s c.args.d e in
-    (g.rows.few, g.tracks)
+pub returns-in_err-fits : goal.returns-in_err-fits
+returns-in_err-fits c =
+    let f = rw (to_z-of_z w32 c.args.d c.ranges.d) at c.in_ok-q.ensures.ok in
+    rw (passed_on _ c.from_residual-in_err-fits.ensures.1) (all_misfit _ _ _ _ _ f.accepted (rw c.places.ensures at c.if-out-places.false) _ (rw c.in_err-fits.was at f.fits))
 
-pub returns-then-out-places : goal.returns-then-out-places
-returns-then-out-places c =
-    let ed = to_z-of_z w32 c.args.d c.ranges.d in
-    let e = asked _ _ _ _ _ (rw ed at c.fit-found.ensures) (sym c.comes_first.ensures ∙ c.if-comes_first.false) in
-    all_short _ _ _ _ _ e (rw c.places.ensures at c.if-out-places.true)
-
-pub returns-in-Refused : goal.returns-in-Refused
-returns-in-Refused c =
-    let ed = to_z-of_z w32 c.args.d c.ranges.d in
-    let f = rw ed at c.fit-found.ensures in
-    let e = asked _ _ _ _ _ f (sym c.comes_first.ensures ∙ c.if-comes_first.false) in
-    all_misfit _ _ _ _ _ e (rw c.places.ensures at c.if-out-places.false) _ (rw c.in-Refused.is at f)
-
-pub returns-in-Accepted : goal.returns-in-Accepted
-returns-in-Accepted c =
-    let ed = to_z-of_z w32 c.args.d c.ranges.d in
-    let f = rw ed at c.fit-found.ensures in
-    let e = asked _ _ _ _ _ f (sym c.comes_first.ensures ∙ c.if-comes_first.false) in
-    all_done_lem _ _ _ _ _ e (rw c.places.ensures at c.if-out-places.false) _ (rw ed at c.draw_wires.ensures) (rw c.in-Accepted.is at f)
+pub returns : goal.returns
+returns c =
+    let f = rw (to_z-of_z w32 c.args.d c.ranges.d) at c.in_ok-q.ensures.ok in
+    all_done_lem _ _ _ _ _ f.accepted (rw c.places.ensures at c.if-out-places.false) _ (rw (f.bottom, f.top, f.separation, f.offset) at c.draw_wires.ensures) (rw c.in_ok-fits.was at f.fits)

@@ -1,22 +1,22 @@
-use Rattle.std.proofs.Common.{List, ℤ, ◌++◌, drop, ap, ◌∙◌, rules, length, w32}
-use mir.Val.{SFits}
+use Rattle.std.proofs.Common.{rules, sym, length, ◌∙◌, FitsSigned, w32}
 use Rattle.std.proofs.lemmas.Int.{to_z-of_z}
 use Rattle.wiring.specs.Wiring.{pad}
-use Rattle.route.proofs.Wires.{left_columns, right_columns}
+use Rattle.route.proofs.Wires.{left_drawn, right_drawn}
 use Rattle.route.proofs.drawing.draw_entries.Goals as goal
 
-pub returns-then-c-a : goal.returns-then-c-a
-returns-then-c-a c =
-    let s = c.args in
-    let x = to_z-of_z w32 s.c c.ranges.c in
-    let f : SFits w32 (pad s.a.now s.i) = search rules in
-    let drawn = left_columns (length s.a.now) (pad s.a.now) s.c s.i s.k (rw (x, to_z-of_z w32 _ f) at c.if-c-a.true) in
-    (rw x at c.draw_left.ensures) ∙ ap (λ (z : List ℤ). z ++ drop s.k s.out.now) drawn
+pub returns-then-goes_left : goal.returns-then-goes_left
+returns-then-goes_left c =
+    let w = c.args.wire in
+    left_drawn (length w.row.now) (pad w.row.now) w.end w.pad (pad c.draw_held.new.out) (length c.args.out.now)
+    (sym c.goes_left.ensures ∙ c.if-goes_left.true)
+    (λ t l m. search (rules, c.draw_held.ensures.held t l m))
+    (let f : FitsSigned w32 w.end = search rules in simp to_z-of_z at c.draw_held.ensures.free)
 
-pub returns-else-c-a : goal.returns-else-c-a
-returns-else-c-a c =
-    let s = c.args in
-    let x = to_z-of_z w32 s.c c.ranges.c in
-    let f : SFits w32 (pad s.a.now s.i) = search rules in
-    let drawn = right_columns (length s.a.now) (pad s.a.now) s.c s.i s.k c.requires.2 (rw (x, to_z-of_z w32 _ f) at c.if-c-a.false) in
-    (rw x at c.draw_right.ensures) ∙ ap (λ (z : List ℤ). z ++ drop s.k s.out.now) drawn
+pub returns-else-goes_left : goal.returns-else-goes_left
+returns-else-goes_left c =
+    let w = c.args.wire in
+    let drawn = c.draw_held-else-goes_left in
+    right_drawn (length w.row.now) (pad w.row.now) w.end w.pad (pad drawn.new.out) (length c.args.out.now) w.inside
+    (sym c.goes_left.ensures ∙ c.if-goes_left.false)
+    (λ t l m. search (rules, drawn.ensures.held t l m))
+    (let f : FitsSigned w32 w.end = search rules in simp to_z-of_z at drawn.ensures.free)

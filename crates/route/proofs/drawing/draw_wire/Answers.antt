@@ -1,36 +1,18 @@
-use Rattle.std.proofs.Common.{sym, ◌∙◌, w32}
+use Rattle.std.proofs.Common.{w32}
 use Rattle.std.proofs.lemmas.Int.{to_z-of_z}
-use Rattle.route.proofs.Answers.{unasked, asked, wire_early, wire_none, wire_short, wire_misfit, wire_done}
+use Rattle.jumper.proofs.Checks.{passed_on}
+use Rattle.route.proofs.Answers.{wire_early, wire_misfit, wire_done}
 use Rattle.route.proofs.drawing.draw_wire.Goals as goal
 
-pub returns-then-comes_first : goal.returns-then-comes_first
-returns-then-comes_first c =
-    let ed = to_z-of_z w32 c.args.d c.ranges.d in
-    let q = unasked _ _ _ _ _ (rw ed at c.fit-found.ensures) (sym c.comes_first.ensures ∙ c.if-comes_first.true) in
-    rw q.1 (wire_early _ _ _ _ _ _ q.0 q.2)
+pub returns-in_err-q : goal.returns-in_err-q
+returns-in_err-q c = rw (passed_on _ c.from_residual.ensures.1) (wire_early _ _ _ _ _ _ _ (rw (to_z-of_z w32 c.args.d c.ranges.d) at c.in_err-q.ensures.err))
 
-pub returns-then-a-wire : goal.returns-then-a-wire
-returns-then-a-wire c =
-    let ed = to_z-of_z w32 c.args.d c.ranges.d in
-    let e = asked _ _ _ _ _ (rw ed at c.fit-found.ensures) (sym c.comes_first.ensures ∙ c.if-comes_first.false) in
-    wire_none _ _ _ _ _ _ e c.if-a-wire.true
+pub returns-in_err-fits : goal.returns-in_err-fits
+returns-in_err-fits c =
+    let f = rw (to_z-of_z w32 c.args.d c.ranges.d) at c.in_ok-q.ensures.ok in
+    rw (passed_on _ c.from_residual-in_err-fits.ensures.1) (wire_misfit _ _ _ _ _ _ f.accepted c.if-a-wire.false c.if-out-s.false _ (rw c.in_err-fits.was at f.fits))
 
-pub returns-then-out-s : goal.returns-then-out-s
-returns-then-out-s c =
-    let ed = to_z-of_z w32 c.args.d c.ranges.d in
-    let e = asked _ _ _ _ _ (rw ed at c.fit-found.ensures) (sym c.comes_first.ensures ∙ c.if-comes_first.false) in
-    wire_short _ _ _ _ _ _ e c.if-a-wire.false c.if-out-s.true
-
-pub returns-in-Refused : goal.returns-in-Refused
-returns-in-Refused c =
-    let ed = to_z-of_z w32 c.args.d c.ranges.d in
-    let f = rw ed at c.fit-found.ensures in
-    let e = asked _ _ _ _ _ f (sym c.comes_first.ensures ∙ c.if-comes_first.false) in
-    wire_misfit _ _ _ _ _ _ e c.if-a-wire.false c.if-out-s.false _ (rw c.in-Refused.is at f)
-
-pub returns-in-Accepted : goal.returns-in-Accepted
-returns-in-Accepted c =
-    let ed = to_z-of_z w32 c.args.d c.ranges.d in
-    let f = rw ed at c.fit-found.ensures in
-    let e = asked _ _ _ _ _ f (sym c.comes_first.ensures ∙ c.if-comes_first.false) in
-    wire_done _ _ _ _ _ _ e c.if-a-wire.false c.if-out-s.false _ (rw ed at c.draw_columns.ensures) (rw c.in-Accepted.is at f)
+pub returns : goal.returns
+returns c =
+    let f = rw (to_z-of_z w32 c.args.d c.ranges.d) at c.in_ok-q.ensures.ok in
+    wire_done _ _ _ _ _ _ f.accepted c.if-a-wire.false c.if-out-s.false _ (rw (f.bottom, f.top, f.separation, f.offset) at c.draw_columns.ensures) (rw c.in_ok-fits.was at f.fits)
