@@ -133,9 +133,9 @@ ladder_room a b h = omega (arith, ladder_length (length a) (lean_of a) (lean_of 
 
 module _ (a b : List ℤ) where
   -- a refusal: what is asked isn't accepted, or no wiring meets it
-  refused_plan : (w : Wish) (r : Refusal) → refusal_numbers r ≡ plan_of w a b → (Asks w a b → Meetable w a b → (refusal_numbers r).refusal ≡ 0)
+  refused_plan : {A : Type 0} (w : Wish) (r : Refusal) → refusal_numbers r ≡ plan_of w a b → (Asks w a b → Meetable w a b → (refusal_numbers r).refusal ≡ 0)
       → ((refusal_numbers r).refusal ≡ 10) ↔ Unfit w a b → ((refusal_numbers r).refusal ≡ 11) ↔ Offsetless w a b → Names w a b (refusal_numbers r)
-      → Known a b (refusal_numbers r).refusal → PlanAnswer w a b (refusal_numbers r)
+      → Known a b {A = A} (Err r) → PlanAnswer w a b (refusal_numbers r)
   refused_plan w r e never p o n k =
       record {
         answer = e;

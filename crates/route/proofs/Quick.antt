@@ -65,9 +65,6 @@ four p p' q q' k e =
     )
 
 -- one track more
-pub runs_none : (p q : ℕ → ℤ) → RunsApart p q 0
-runs_none p q t h = absurd (omega arith)
-
 pub runs_more : (p q : ℕ → ℤ) (t m k : ℕ) → (m ≡ 0) ↔ RunsApart p q t
     → (k ≡ 0) ↔ (larger_of (p t) (p (t + 1)) <ℤ smaller_of (q t) (q (t + 1))) → (m + k ≡ 0) ↔ RunsApart p q (t + 1)
 runs_more p q t m k f g = (

@@ -210,12 +210,6 @@ module _ (l s : ℕ) (d : ℤ) (a b : List ℤ) (i t : ℕ) (out : List ℕ) (fr
       let y : is_asked a b s d ≡ true = eq-eqb _ _ (number_of (check_asked a b s d) z) in
       rw e (record { gave = simp y r.gave; fits = r.fits; far = r.far })
 
-  pub unasked_route : (f : Refusal) → check_asked a b s d ≡ Err f → MovesOut l s d a b i t out from (length a) 0 from out
-  unasked_route f z =
-      let w : checked_numbers (check_asked a b s d) ≡ refusal_numbers f = ap checked_numbers z in
-      let y : is_asked a b s d ≡ false = ne_eqb _ _ (λ h. numbered f (ap (λ (k : Numbers). k.refusal) (sym w) ∙ h)) in
-      record { gave = simp y; fits = (λ h. h); far = λ h. absurd (omega arith) }
-
 -- ---- the whole route, and none
 
 from_start : (l s : ℕ) (d : ℤ) (a b : List ℤ) → route_left l s d a b 0 0 ≡ wires_text l (drawn (length a) (pad a) (top_pad b d)) s 0 (length a)

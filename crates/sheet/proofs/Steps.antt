@@ -179,15 +179,13 @@ module _ (s : State) (line : List ℕ) (a b : List ℤ) (full : length line ≡ 
       → told (events (seen_by s.machine) (mode_of s.machine a b) (last_frame (take s.at line))) ≡ text_of e → Finished s line a b r
   unfolding owes later frames_from last_frame events told
   ends e n k plain skips q =
-      let p : Plain t.did = rw k.answer plain in
-      let mode : mode_of r.machine a b ≡ skipping = ap (λ (z : State). mode_of z.machine a b) is ∙ k.mode ∙ skips in
-      let at : r.at ≡ 0 = ap (λ (z : State). z.at) is in
-      let text : pending r a b ≡ text_of e = ap (λ (z : State). pending z a b) is ∙ after_text t a b p ∙ ap text_of k.event in
-      record {
-        owed = simp (not_busy s a b idle) (q ∙ sym text ∙ sym (append-nil (pending r a b)) ∙ ap (λ (l : List ℕ). pending r a b ++ l) (sym (simp (at, mode))));
-        ended = λ h. simp (at, mode);
+      let mode : mode_of t.machine a b ≡ skipping = k.mode ∙ skips in
+      let text : pending (after t) a b ≡ text_of e = after_text t a b (rw k.answer plain) ∙ ap text_of k.event in
+      rw is (record {
+        owed = simp (not_busy s a b idle) (q ∙ sym text ∙ sym (append-nil (pending (after t) a b)) ∙ ap (λ (l : List ℕ). pending (after t) a b ++ l) (sym (simp mode)));
+        ended = λ h. simp mode;
         busy = λ h. absurd (true≢false (sym h ∙ idle));
-      }
+      })
 
   pub ends_fed : s.at ≡ 0 → Told (at_end (mode_of s.machine a b)) s.machine.seen a b t a b → Finished s line a b r
   unfolding last_frame events told
