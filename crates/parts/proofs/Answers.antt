@@ -1,27 +1,25 @@
-use Rattle.std.specs.Prelude.{Ok, Err}
 -- WHAT THE CALLS PROMISE, from what their parts find.
 -- Sections: the check; still_fits; part_route.
+use Rattle.std.specs.Prelude.{Ok, Err}
 use mathlib.Core.Path.{◌≡◌, refl, sym, ◌∙◌}
-use mathlib.Core.Bool.{true, false}
 use mathlib.Core.List.{List}
 use mathlib.Core.Logic.{inl, inr, ⊎_elim, ◌≢◌}
 use Prim.Native.Nat.{ℕ, ◌+◌, ◌*◌, ◌≤◌, ◌<◌}
 use native.Mathlib.Decide.{dec_lt}
 use native.Mathlib.Omega.{arith}
-use borrow.Author.Tests.{eqb-true, eqb-false, eq-eqb, ne_eqb, lt-ltb, le-ltb}
+use borrow.Author.Tests.{eq-eqb, ne_eqb, lt-ltb, le-ltb}
 use lib.Dec.{eqb}
 use lib.ListN.{length, drop}
 use lib.IntN.{ℤ}
 use Rattle.wiring.specs.Wiring.{pad, top_pad}
 use Rattle.wiring.proofs.Parts.{part_length, dropped_legal, dropped_wiring}
-use Rattle.jumper.specs.Limits.{max_tracks}
 use Rattle.jumper.specs.Refusals.{refusal_numbers}
 use Rattle.jumper.specs.Rows.{Checked, checked_numbers, pick}
 use Rattle.jumper.specs.Asked.{check_asked, Asked}
 use Rattle.jumper.specs.declared.refusal.Refusal.{Refusal}
 use Rattle.jumper.specs.declared.refusal.Refusal.TheVariants.{Unequal, Empty, Buffer}
-use Rattle.jumper.proofs.Accepted.{numbered, accepted_of, number_of, refused_not, first, second, both}
-use Rattle.jumper.proofs.Checks.{accepted_asked, asked_accepted, Early, early_pick, early_or, early_asked}
+use Rattle.jumper.proofs.Accepted.{numbered, refused_not}
+use Rattle.jumper.proofs.Checks.{asked_accepted, Early, early_pick, early_or, early_asked}
 use Rattle.fit.specs.Misfit.{FitAnswer}
 use Rattle.route.specs.Table.{column_in, LegalRoute}
 use Rattle.route.specs.Check.{RouteCheck}
@@ -112,11 +110,6 @@ module _ (a b : List ℤ) (stays : List ℕ) (s : ℕ) (d : ℤ) (table out : Li
   module _ (k : AskedPart a b stays s d) where
     e : check_part a b stays s d ≡ (Ok tt)
     e = part_accepted a b stays s d k
-
-    -- what is lent to the leaf that writes them
-    pub table_lent : places_kept stays s ≤ length out → length a * (s + 1) ≤ length table
-        → (s ≤ max_tracks) × (length stays * (s + 1) ≤ length table) × (places_kept stays s ≤ length out)
-    table_lent room long = (k.whole.tracks, rw (← k.bytes) long, room)
 
     pub routed_short : length out < places_kept stays s → RoutedAnswer a b stays s d table out out (Err Buffer)
     routed_short h =

@@ -20,7 +20,7 @@ use Rattle.wiring.specs.Wiring.{pad}
 use Rattle.wiring.specs.Part.{pair_of, part_of}
 use Rattle.route.specs.Table.{column_in, columns, wires}
 use Rattle.route.proofs.Places.{columns_length, columns_same, columns_at, wires_length, place_in}
-use Rattle.parts.specs.Stays.{kept_among, kept, row_kept, wire_kept}
+use Rattle.parts.specs.Stays.{kept_among, kept, wire_kept}
 use Rattle.parts.specs.Routed.{places_kept, part_written}
 use Rattle.parts.proofs.Keeping.{kept_none, as_many, one_more, Goes, goes, kept_few, kept_room, kept_pair}
 
@@ -97,8 +97,7 @@ module _ {stays : List ℕ} {s : ℕ} {table : List ℤ} {i : ℕ} {rest : List 
       go : Dec (i < length stays) → Next stays s table i x b × Coming stays s table (i + 1) rest' left'
       go (yes h) =
           let g : get_or stays i 0 ∷ drop (suc i) stays ≡ b ∷ left' = sym (drop-cons stays i 0 h) ∙ sym c.bytes_left ∙ f in
-          let k : i * (s + 1) + (s + 1) ≡ (i + 1) * (s + 1) = rw (add-one i) (omega (arith, suc-mul i (s + 1))) in
-          (
+          let k : i * (s + 1) + (s + 1) ≡ (i + 1) * (s + 1) = rw (add-one i) (omega (arith, suc-mul i (s + 1))) in (
             record { some = h; byte = cc; wire = rw l at (cut_columns table x rest' (i * (s + 1)) cut) },
             record {
               wires_left = sym (drop_at x rest' (s + 1) l) ∙ ap (drop (s + 1)) (sym cut) ∙ drop-drop (s + 1) (i * (s + 1)) table ∙ ap (λ (m : ℕ). drop m table) k;

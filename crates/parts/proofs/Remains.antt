@@ -1,16 +1,15 @@
 -- WHAT REMAINS OF ACCEPTED ROWS is accepted, whatever pairs stay; and so are rows without the pair that was added last.
-use mathlib.Core.Path.{◌≡◌, sym, ap, ◌∙◌}
+use mathlib.Core.Path.{◌≡◌, sym, ◌∙◌}
 use mathlib.Core.List.{List, [], ◌∷◌}
 use Prim.Native.Nat.{ℕ, zero, suc, ◌+◌, ◌-◌, ◌≤◌, ◌<◌}
 use native.Mathlib.Decide.{dec_lt}
 use native.Mathlib.Omega.{arith}
-use lib.ListN.{length, take, length-append, length-take, get_or-append}
+use lib.ListN.{length, length-append, get_or-append}
 use lib.IntN.{ℤ, pos}
 use Rattle.wiring.specs.Wiring.{pad}
 use Rattle.wiring.specs.Part.{pair_of, Choice, part_of, longer}
 use Rattle.wiring.proofs.Rule.{rising_less}
 use Rattle.wiring.proofs.Parts.{part_length, part_pad}
-use Rattle.jumper.specs.Limits.{max_pairs}
 use Rattle.jumper.specs.Rows.{AcceptedRow, AcceptedRows}
 use Rattle.jumper.specs.Asked.{AcceptedShift, Asked}
 use Rattle.parts.specs.Stays.{kept, row_kept, AskedPart}
@@ -85,15 +84,3 @@ shorter_rows a b x y r some =
       bottom = shorter_row a x r.bottom;
       top = shorter_row b y r.top;
     }
-
--- THE MEMORY into which a row left is written, and what its first m places hold then
-pub row_lent : {a b : List ℤ} {stays : List ℕ} {s : ℕ} {d : ℤ} → AskedPart a b stays s d → (row : List ℤ) → length a ≡ length row
-    → (length stays ≤ length row) × (length stays ≤ max_pairs)
-row_lent k row e = (omega (arith, k.bytes), omega (arith, k.bytes, k.whole.rows.few))
-
-module _ (stays : List ℕ) (a out : List ℤ) (m : ℕ) (e : m ≡ length (kept stays)) (was : take m out ≡ row_kept stays a) where
-  pub row_number : m ≡ length (take m out)
-  row_number = e ∙ sym (part_length (kept stays) a) ∙ ap length (sym was)
-
-  pub row_inside : m ≤ length out
-  row_inside = omega (arith, row_number, length-take m out)

@@ -4,8 +4,7 @@
 -- isn't the one we would draw for the part, whose wire 0 enters track 2 on column 1 already. It is legal all the same.
 use Rattle.std.specs.Prelude.{◌≡◌, List, ◌++◌, ◌⊎◌, ◌↔◌, ℕ, ◌+◌, ◌*◌, ◌≤◌, ◌<◌, length, drop, ℤ}
 use Rattle.wiring.specs.Wiring.{pad, top_pad}
-use Rattle.jumper.specs.Rows.{checked_numbers, or_else}
-use Rattle.jumper.specs.Rows.{Checked}
+use Rattle.jumper.specs.Rows.{Checked, checked_numbers, or_else}
 use Rattle.route.specs.Table.{column_in, no_room, LegalRoute}
 use Rattle.route.specs.Draw.{buffer_after}
 use Rattle.route.specs.Check.{FirstFault, route_checked}

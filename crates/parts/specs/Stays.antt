@@ -3,7 +3,7 @@
 --
 -- Worked: the bytes 1,0,7,1 keep pairs 0, 2 and 3 of J = rows 0,1,4,5 and 1,2,3,4: rows 0,4,5 and 1,3,4 remain. Three bytes for J are UNEQUAL, four bytes 0
 -- EMPTY. Were a column of J out of range, four bytes 0 would still be EMPTY, and any others COLUMN, even if that column's pair is dropped.
-use Rattle.std.specs.Prelude.{Ok, Err, cond, ◌≡◌, List, [], ◌∷◌, ◌++◌, ◌↔◌, ℕ, zero, suc, ◌≤◌, eqb, length, get_or, ℤ}
+use Rattle.std.specs.Prelude.{Ok, Err, cond, ◌≡◌, List, [], ◌∷◌, ◌++◌, ℕ, zero, suc, ◌≤◌, eqb, length, get_or, ℤ}
 use Rattle.wiring.specs.Part.{pair_of, part_of}
 use Rattle.jumper.specs.Rows.{Checked, pick, or_else}
 use Rattle.jumper.specs.Asked.{check_asked, Asked}

@@ -6,8 +6,7 @@
 use Rattle.std.specs.Prelude.{◌≡◌, List, ◌↔◌, ℕ, ℤ}
 use Rattle.wiring.specs.Wiring.{HasWiring}
 use Rattle.wiring.specs.Tracks.{rule_at}
-use Rattle.jumper.specs.Rows.{checked_numbers, or_else}
-use Rattle.jumper.specs.Rows.{Checked}
+use Rattle.jumper.specs.Rows.{Checked, checked_numbers, or_else}
 use Rattle.fit.specs.Misfit.{misfit_of, no_fit, Witness}
 use Rattle.parts.specs.Stays.{row_kept, check_part, AskedPart}
 

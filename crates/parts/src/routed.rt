@@ -2,7 +2,7 @@
 ghost use Rattle.parts.specs.Routed.{RoutedAnswer};
 
 use crate::keep::keep_wires;
-use crate::stays::{Part, pairs_kept};
+use crate::stays::Part;
 use jumper::refusal::Refusal;
 use route::checking::check_route;
 
@@ -20,10 +20,10 @@ pub fn part_route(
     ensures { RoutedAnswer a.now b.now stays.now s d table.now out.old out.new result }
 {
     let part = Part::check(a, b, stays, s, d)?;
-    if out.len() < pairs_kept(part.stays) * (s + 1) {
+    if out.len() < part.places() {
         return Err(Refusal::Buffer);
     }
     check_route(a, b, s, d, table)?;
-    keep_wires(table, s, part.stays, out);
+    keep_wires(part, table, out);
     Ok(())
 }

@@ -1,13 +1,14 @@
 // Which pairs stay: a lent row of bytes, one a pair, 0 for a pair that is dropped and anything else for one that stays. And the checks of a part.
 ghost use Rattle.std.specs.Prelude.{◌≡◌, Err, IfOk, IfErr, eqb, length};
 ghost use Rattle.parts.specs.Stays.{kept, check_part, AskedPart};
+ghost use Rattle.parts.specs.Routed.{places_kept};
 
 use jumper::asked::Question;
 use jumper::refusal::Refusal;
 
 // How many pairs stay.
 #[tactic(auto, using(crate::proofs::Keeping::kept_count))]
-pub(crate) fn pairs_kept(stays: &[u8]) -> usize
+fn pairs_kept(stays: &[u8]) -> usize
     ensures { result ≡ length (kept stays.now) }
 {
     stays.iter().filter(|&&stay| stay != 0).count()
@@ -48,5 +49,12 @@ impl<'a> Part<'a> {
         }
         let question = Question::check(a, b, s, d)?;
         Ok(Part { question, stays })
+    }
+
+    // How many places the part's route takes, of all its wires.
+    pub(crate) fn places(self) -> usize
+        ensures { result ≡ places_kept self.entry.stays.now self.entry.question.separation }
+    {
+        pairs_kept(self.stays) * (self.question.separation + 1)
     }
 }

@@ -10,13 +10,7 @@ use jumper::limits::MAX_PAIRS;
 use jumper::refusal::Refusal;
 
 // The question of `fit`, asked of the pairs that stay: refusals 1 to 7 of the whole rows and of the bytes, then NOFIT, its pads numbered in the part.
-pub fn still_fits(
-    a: &[i32],
-    b: &[i32],
-    stays: &[u8],
-    s: usize,
-    d: i32,
-) -> Result<(), Refusal>
+pub fn still_fits(a: &[i32], b: &[i32], stays: &[u8], s: usize, d: i32) -> Result<(), Refusal>
     ensures { StillAnswer a.now b.now stays.now s d result }
 {
     fit_part(Part::check(a, b, stays, s, d)?)

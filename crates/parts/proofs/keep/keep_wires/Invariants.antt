@@ -8,7 +8,7 @@ use Rattle.parts.proofs.keep.keep_wires.Given as goal
 abbrev pub invariant-loop-wire : goal.invariant-loop-wire
 invariant-loop-wire l =
     record {
-      size : chunks_exact_size (zip_first l.wire-iterator) ≡ l.s + 1;
-      coming : Coming l.stays l.s l.table (length l.yielded) (chunks_exact_rest (zip_first l.wire-iterator)) (iter_rest (zip_second l.wire-iterator));
-      held : Held l.stays l.s l.table l.initial.out l.place (length l.yielded) l.out;
+      size : chunks_exact_size (zip_first l.wire-iterator) ≡ l.part.question.separation + 1;
+      coming : Coming l.part.stays.now l.part.question.separation l.table (length l.yielded) (chunks_exact_rest (zip_first l.wire-iterator)) (iter_rest (zip_second l.wire-iterator));
+      held : Held l.part.stays.now l.part.question.separation l.table l.initial.out l.place (length l.yielded) l.out;
     }
