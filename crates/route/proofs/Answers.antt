@@ -223,6 +223,19 @@ module _ (a b : List ℤ) (s : ℕ) (d : ℤ) (out : List ℤ) where
       }
 
   module _ (e : check_asked a b s d ≡ Ok tt) where
+    pub all_short : length out < length a * (s + 1) → DrawAllAnswer a b s d out out (Err Buffer)
+    all_short h =
+        record {
+          answer = sym (rw (e, lt-ltb (length out) (length a * (s + 1)) h));
+          buffer = refl;
+          refused = λ z. refl;
+          draws = ((λ z. absurd (omega arith)), (λ z. absurd (omega (arith, z.1))));
+          places = λ z. absurd (omega arith);
+          legal = λ z. absurd (omega arith);
+          prevents = ((λ z. absurd (omega arith)), (λ z. absurd (omega (arith, z.1))));
+          witness = λ z. absurd (omega arith);
+        }
+
     module _ (room : length a * (s + 1) ≤ length out) where
       pub all_misfit : (r : Refusal) → FitAnswer a b s d (Err r) → DrawAllAnswer a b s d out out (Err r)
       all_misfit r f =

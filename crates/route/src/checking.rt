@@ -112,7 +112,6 @@ impl<'a> TableWire<'a> {
     }
 
     // The leftmost and the rightmost column of its run on track t.
-    #[tactic(auto, using(crate::proofs::Wires::extremes))]
     fn run(self, t: usize) -> (i32, i32)
         requires { t < self.table.asked.separation }
         ensures { let e = entered self.entry.table.asked self.entry.table.columns.now in

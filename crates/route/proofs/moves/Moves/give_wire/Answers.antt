@@ -48,3 +48,13 @@ returns-clause-wrote c =
       fits = loop.invariant.4;
       far = λ h. absurd (h refl);
     }
+
+pub returns-then-not-put-clause-wrote : goal.returns-then-not-put-clause-wrote
+returns-then-not-put-clause-wrote c =
+    let loop = c.loop-t in
+    let f = c.put.ensures.wrote.full c.if-not-put.true in
+    record {
+      gave = rw (f.0, f.1) loop.invariant.3;
+      fits = rw f.0 loop.invariant.4;
+      far = λ h. omega (arith, f.0, f.2, loop.invariant.1);
+    }
