@@ -3,7 +3,8 @@
 -- `owes s line a b rest` is all that is still to come out, for any rest of the sheet. A fresh state owes `answers sheet`; each call hands out a
 -- part of what is owed and leaves a state that owes what is left. So whatever the pieces are, what comes out in all is `answers sheet`
 -- (the law `whole_sheet` of proofs/Feeds.antt, for runs that empty the buffer after each call).
-use Rattle.std.specs.Prelude.{Bool, true, false, cond, ◌&&◌, ◌||◌, Option, None, Some, is_some, ◌≡◌, List, [], ◌∷◌, ◌++◌, ℕ, ◌+◌, ◌<◌, ◌≤◌, eqb, ltb, leb, length, take, drop, ℤ}
+use Rattle.std.specs.Prelude.{Bool, true, false, cond, ◌&&◌, ◌||◌, Option, None, Some, is_some}
+use Rattle.std.specs.Prelude.{◌≡◌, List, [], ◌∷◌, ◌++◌, ℕ, ◌+◌, ◌<◌, ◌≤◌, eqb, ltb, leb, length, take, drop, ℤ}
 use Rattle.jumper.specs.Limits.{max_pairs}
 use Rattle.jumper.specs.declared.refusal.Refusal.TheVariants.{Sequence}
 use Rattle.frame.specs.Frame.{Frame, bad, text_frame}
