@@ -54,9 +54,11 @@ pub data Run : State → List ℕ → List ℤ → List ℤ → List ℕ → Lis
       → Run r line a b sheet w t l x y left
       → Run s line a b sheet (take to out' ++ w) t l x y left
 
-pub run_owes : {s t : State} {line sheet w l left : List ℕ} {a b x y : List ℤ} → Run s line a b sheet w t l x y left → owes s line a b sheet ≡ w ++ owes t l x y left
+pub run_owes : {s t : State} {line sheet w l left : List ℕ} {a b x y : List ℤ} → Run s line a b sheet w t l x y left
+    → owes s line a b sheet ≡ w ++ owes t l x y left
 run_owes here = refl
-run_owes (feeds {out' = out'} {w = w} {to = to} rest f p) = f.owed rest ∙ ap (λ (z : List ℕ). take to out' ++ z) (run_owes p) ∙ sym (append_assoc (take to out') w _)
+run_owes (feeds {out' = out'} {w = w} {to = to} rest f p) = f.owed rest ∙ ap (λ (z : List ℕ). take to out' ++ z) (run_owes p)
+    ∙ sym (append_assoc (take to out') w _)
 run_owes (gives {s = s} {r = r} {line = line} {out = out} {out' = out'} {w = w} {sheet = sheet} {a = a} {b = b} {to = to} g p) =
     gave_on _ _ line _ _ _ _ _ _ g sheet ∙ ap (λ (z : List ℕ). take to out' ++ z) (run_owes p) ∙ sym (append_assoc (take to out') w _)
 
@@ -65,7 +67,8 @@ pub data Drain (a b : List ℤ) : State → List ℕ → State → Type 0 where
   dry : {s : State} → Drain a b s [] s
   gives : {s r t : State} {out out' w : List ℕ} {to : ℕ} → Given s a b out 0 r to out' → Drain a b r w t → Drain a b s (take to out' ++ w) t
 
-drained : {a b : List ℤ} {s t : State} {w : List ℕ} (line : List ℕ) → Drain a b s w t → (owes s line a b [] ≡ w ++ owes t line a b []) × (later t line a b [] ≡ later s line a b [])
+drained : {a b : List ℤ} {s t : State} {w : List ℕ} (line : List ℕ) → Drain a b s w t
+    → (owes s line a b [] ≡ w ++ owes t line a b []) × (later t line a b [] ≡ later s line a b [])
 drained line dry = (refl, refl)
 drained {a = a} {b = b} line (gives {s = s} {r = r} {out = out} {out' = out'} {w = w} {to = to} g p) =
     let d = drained line p in
@@ -73,7 +76,8 @@ drained {a = a} {b = b} line (gives {s = s} {r = r} {out = out} {out' = out'} {w
 
 -- THE LAW: run from a fresh state over the whole sheet until `busy` says no, finish, and give until it says no again. What was written in all is the
 -- answer to the sheet
-pub whole_sheet : {s u v t : State} {line sheet w l w' : List ℕ} {a b x y : List ℤ} → Fresh s → Run s line a b sheet w u l x y [] → Busy u false → Finished u l x y v
+pub whole_sheet : {s u v t : State} {line sheet w l w' : List ℕ} {a b x y : List ℤ} → Fresh s → Run s line a b sheet w u l x y [] → Busy u false
+    → Finished u l x y v
     → Drain x y v w' t → Busy t false → w ++ w' ≡ answers sheet
 whole_sheet {t = t} {line = line} {sheet = sheet} {w = w} {l = l} {w' = w'} {a = a} {b = b} {x = x} {y = y} f p idle g q idle' =
     let d = drained l q in
