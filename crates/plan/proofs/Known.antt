@@ -10,7 +10,6 @@ use lib.Dec.{eqb, ltb}
 use lib.ListN.{length}
 use lib.IntN.{ℤ}
 use lib.Signed.{lt_z, le_z}
-use Rattle.wiring.specs.Fit.{lean_of}
 use Rattle.wiring.specs.Tracks.{rule_at}
 use Rattle.jumper.specs.Limits.{max_pairs, first_column, last_column}
 use Rattle.jumper.specs.Refusals.{refusal_numbers}
@@ -20,8 +19,8 @@ use Rattle.jumper.specs.declared.refusal.Refusal.{Refusal}
 use Rattle.jumper.specs.declared.refusal.Refusal.TheVariants.{Unequal, Empty, Long, Column, Order, Tracks as NoTracks, Offset, Buffer, NoFit, NoOffset}
 use Rattle.fit.specs.Misfit.{misfit_of, no_fit, fit_of}
 use Rattle.fit.specs.Least.{least_answer}
-use Rattle.fit.specs.Offsets.{range_found, offsets_answer}
-use Rattle.best.specs.Best.{Best, planned_of, ladder_of, room_or, best_answer}
+use Rattle.fit.specs.Offsets.{offsets_answer}
+use Rattle.best.specs.Best.{planned_of, room_or, best_answer}
 use Rattle.best.specs.declared.plan.Planned.{Planned}
 use Rattle.fit.specs.declared.misfit.Misfit.{Misfit}
 
