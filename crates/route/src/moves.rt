@@ -52,7 +52,8 @@ impl Writer<'_> {
         ensures same { (self.new.out.ghost_name ≡ self.old.out.ghost_name) × (length self.new.out.now ≡ length self.old.out.now) }
         ensures wrote { TrackOut (move_text m) self.old.out.now self.old.at result self.new.at self.new.out.now }
     {
-        if m.from == m.to {
+        let Move { from, to, .. } = m;
+        if from == to {
             return true;
         }
         let next = put_move(self.out, self.at, m);
