@@ -1,11 +1,9 @@
 // Answers a sheet: standard input to standard output. What answers which bytes is all in `sheet`; here they are only read and written.
 #![tactic(auto)]
 
-ghost use Rattle.std.specs.Prelude.{◌≡◌, ℕ, List, ◌++◌, ◌≤◌, length, take, false, IsTrue, IfSome};
+ghost use Rattle.std.specs.Prelude.{◌≡◌, ◌≤◌, length, take, OnOk, IfSome};
 ghost use Rattle.std.specs.Io.KnownBytes.{Appends};
 ghost use Rattle.sheet.specs.Machine.{answers};
-ghost use Rattle.sheet.specs.Owes.{later, Busy};
-ghost use Rattle.answersheet.specs.Sent.{due, Sends, Reads};
 
 use jumper::limits::MAX_PAIRS;
 use sheet::feed::{feed, finish};
@@ -14,204 +12,159 @@ use sheet::state::{State, busy, fresh};
 use std::io::{Read, Write};
 use std::process::ExitCode;
 
-// A state, how much of the output buffer is to be sent, and whether all went well so far.
-#[derive(Clone, Copy)]
-struct Stage {
-    s: State,
+// Not all is answered, and nothing more is: an error was told, or no turn is left of 2^64.
+#[derive(Clone, Copy, Debug)]
+struct Stopped;
+
+// A buffer of which the first n bytes are still to be sent.
+#[derive(Drop)]
+struct Outgoing {
+    bytes: [u8; 131072],
     n: usize,
-    well: bool,
-    more: bool,
+    ghost room: { n ≤ length bytes },
 }
 
-// The first n bytes of the output buffer, sent. An error is told.
-fn send<W: Write, E: Eprint>(output: &mut W, errors: &E, out: &[u8], n: usize) -> bool
-    requires { n ≤ length out.now }
-    ensures { IsTrue result → Appends (W.contents output.old) (W.contents output.new) (take n out.now) }
-{
-    if output.write_all(&out[..n]).is_ok() {
-        return true;
+impl Outgoing {
+    fn waiting(&self) -> &[u8]
+        ensures { result.now ≡ take self.now.n self.now.bytes }
+    {
+        &self.bytes[..self.n]
     }
-    let _ = errors.eprintln("answersheet: standard output can't be written");
-    false
 }
 
-// A piece of the sheet: whenever the output buffer is full it is sent.
-fn pump<W: Write, E: Eprint>(
-    output: &mut W,
-    errors: &E,
-    piece: &[u8],
-    line: &mut [u8; 160],
-    a: &mut [i32; MAX_PAIRS],
-    b: &mut [i32; MAX_PAIRS],
-    out: &mut [u8],
-    s: State,
-    n: usize,
-) -> Stage
-    requires { n ≤ length out.old }
-    ensures room { result.n ≤ length out.old }
-    ensures goes_on { result.more ≡ result.well }
-    ensures sends { IsTrue result.well → Sends (W.contents output.old) (W.contents output.new)
-        (λ rest. due out.old n s line.old a.old b.old (piece.now ++ rest))
-        (due out.new result.n result.s line.new a.new b.new) }
-{
-    let mut st = s;
-    let mut at = n;
-    let mut well = true;
-    let mut used: usize = 0;
-    let mut turns = u64::MAX;
-    while 0 < turns && well && used < piece.len() {
-        let f = feed(line, a, b, st, &piece[used..], out, at);
-        st = f.s;
-        at = f.n;
-        used += f.used;
-        if used < piece.len() {
-            well = send(output, errors, out, at);
-            at = 0;
+// Where a sheet is answered: the writer, and where errors are told; the line so far, both rows and the state; and what is written of the answer.
+#[derive(Drop)]
+struct Desk<'o, 'e, W, E> {
+    output: &'o mut W,
+    errors: &'e E,
+    line: [u8; 160],
+    a: [i32; MAX_PAIRS],
+    b: [i32; MAX_PAIRS],
+    state: State,
+    out: Outgoing,
+}
+
+impl<W: Write, E: Eprint> Desk<'_, '_, W, E> {
+    ghost use Rattle.std.specs.Prelude.{ℕ, List, [], ◌++◌};
+    ghost use Rattle.answersheet.specs.Sent.{due, Writes, Sends, Sent, Drained};
+
+    fn tell(&self, error: &str) -> Stopped {
+        let _ = eprintln!(self.errors; "answersheet: {error}");
+        Stopped
+    }
+
+    // What waits in the buffer, sent.
+    fn send(&mut self) -> Result<(), Stopped>
+        ensures sends { OnOk result (Sends W.contents self.old.output self.new.output (due self.old) (due self.new)) }
+        ensures sent { OnOk result (Sent self.old self.new) }
+    {
+        self.output
+            .write_all(self.out.waiting())
+            .map_err(|_| self.tell("standard output can't be written"))?;
+        self.out.n = 0;
+        Ok(())
+    }
+
+    // A piece of the sheet: whenever the buffer is full it is sent.
+    fn pump(&mut self, piece: &[u8]) -> Result<(), Stopped>
+        ensures { OnOk result (Sends W.contents self.old.output self.new.output (λ rest. due self.old (piece.now ++ rest)) (due self.new)) }
+    {
+        let mut rest = piece;
+        for _ in 0..u64::MAX {
+            let f = feed(
+                &mut self.line,
+                &mut self.a,
+                &mut self.b,
+                self.state,
+                rest,
+                &mut self.out.bytes,
+                self.out.n,
+            );
+            self.state = f.s;
+            self.out.n = f.n;
+            if f.used == rest.len() {
+                return Ok(());
+            }
+            rest = &rest[f.used..];
+            self.send()?;
         }
-        turns -= 1;
+        Err(Stopped)
     }
-    let done = well && used == piece.len();
-    Stage {
-        s: st,
-        n: at,
-        well: done,
-        more: done,
-    }
-}
 
-// All that is still to write, sent.
-fn drain<W: Write, E: Eprint>(
-    output: &mut W,
-    errors: &E,
-    a: &[i32; MAX_PAIRS],
-    b: &[i32; MAX_PAIRS],
-    out: &mut [u8],
-    s: State,
-    n: usize,
-) -> Stage
-    requires { n ≤ length out.old }
-    ensures sends { IsTrue result.well → (line : List ℕ) → Sends (W.contents output.old) (W.contents output.new)
-        (due out.old n s line a.now b.now) (due out.new result.n result.s line a.now b.now) }
-    ensures sent { IsTrue result.well → result.n ≡ 0 }
-    ensures same { (line rest : List ℕ) → later result.s line a.now b.now rest ≡ later s line a.now b.now rest }
-    ensures idle { IsTrue result.well → Busy result.s false }
-{
-    let mut st = s;
-    let mut at = n;
-    let mut well = true;
-    let mut more = true;
-    let mut turns = u64::MAX;
-    while 0 < turns && well && more {
-        let g = give(a, b, st, out, at);
-        st = g.s;
-        at = g.n;
-        well = send(output, errors, out, at);
-        at = 0;
-        more = busy(st);
-        turns -= 1;
-    }
-    Stage {
-        s: st,
-        n: at,
-        well: well && !more,
-        more,
-    }
-}
-
-// One read, and what it brought. Where nothing can be read any more, what is answered already is sent before that is told.
-fn turn<R: Read, W: Write, E: Eprint>(
-    input: &mut R,
-    output: &mut W,
-    errors: &E,
-    line: &mut [u8; 160],
-    a: &mut [i32; MAX_PAIRS],
-    b: &mut [i32; MAX_PAIRS],
-    out: &mut [u8],
-    s: State,
-    n: usize,
-) -> Stage
-    requires { n ≤ length out.old }
-    ensures room { result.n ≤ length out.old }
-    ensures goes_on { IsTrue result.more → IsTrue result.well }
-    ensures reads { IsTrue result.well → Reads (R.remaining input.old) (R.remaining input.new)
-        (W.contents output.old) (W.contents output.new) result.more
-        (due out.old n s line.old a.old b.old) (due out.new result.n result.s line.new a.new b.new) }
-{
-    let mut piece = [0u8; 65536];
-    match input.read(&mut piece) {
-        Ok(0) => Stage {
-            s,
-            n,
-            well: true,
-            more: false,
-        },
-        Ok(k) => pump(output, errors, &piece[..k], line, a, b, out, s, n),
-        Err(_) => {
-            send(output, errors, out, n);
-            let _ = errors.eprintln("answersheet: standard input can't be read");
-            Stage {
-                s,
-                n,
-                well: false,
-                more: false,
+    // All that is still to write, sent.
+    #[tactic(auto, using(crate::proofs::Sendings::sends_on, sheet::proofs::Feeds::gave_on))]
+    fn drain(&mut self) -> Result<(), Stopped>
+        ensures sends { OnOk result (Sends W.contents self.old.output self.new.output (due self.old) (due self.new)) }
+        ensures drained { OnOk result (Drained self.old self.new) }
+    {
+        for _ in 0..u64::MAX {
+            let g = give(
+                &self.a,
+                &self.b,
+                self.state,
+                &mut self.out.bytes,
+                self.out.n,
+            );
+            self.state = g.s;
+            self.out.n = g.n;
+            self.send()?;
+            if !busy(self.state) {
+                return Ok(());
             }
         }
+        Err(Stopped)
+    }
+
+    // The sheet ends: what is still to write is sent, and then what its end calls for.
+    fn end(&mut self) -> Result<(), Stopped>
+        ensures { OnOk result (Writes W.contents self.old.output self.new.output (due self.old [])) }
+    {
+        self.drain()?;
+        self.state = finish(&self.line, self.state);
+        self.drain()
     }
 }
 
-// The whole sheet, and whether all of it was answered. After an error that was told nothing more is answered.
+// The whole sheet. After an error that was told nothing more is answered.
+#[tactic(auto, using(crate::proofs::Sendings::nothing_read, crate::proofs::Sendings::reads_on))]
 fn run<R: Read, W: Write, E: Eprint>(
     input: &mut R,
     output: &mut W,
     errors: &E,
-    line: &mut [u8; 160],
-    a: &mut [i32; MAX_PAIRS],
-    b: &mut [i32; MAX_PAIRS],
-    out: &mut [u8],
-) -> bool
-    ensures { IsTrue result → IfSome (R.remaining input.old)
-        (λ sheet. Appends (W.contents output.old) (W.contents output.new) (answers sheet)) }
+) -> Result<(), Stopped>
+    ensures { OnOk result (IfSome (R.remaining input.old)
+        (λ sheet. Appends (W.contents output.old) (W.contents output.new) (answers sheet))) }
 {
-    let mut st = fresh();
-    let mut at: usize = 0;
-    let mut turns = u64::MAX;
-    let mut well = true;
-    let mut more = true;
-    while turns > 0 && more {
-        let t = turn(input, output, errors, line, a, b, out, st, at);
-        st = t.s;
-        at = t.n;
-        well = t.well;
-        more = t.more;
-        turns -= 1;
+    let mut desk = Desk {
+        output,
+        errors,
+        line: [0; 160],
+        a: [0; MAX_PAIRS],
+        b: [0; MAX_PAIRS],
+        state: fresh(),
+        out: Outgoing {
+            bytes: [0; 131072],
+            n: 0,
+        },
+    };
+    let mut piece = [0u8; 65536];
+    for _ in 0..u64::MAX {
+        match input.read(&mut piece) {
+            Ok(0) => return desk.end(),
+            Ok(k) => desk.pump(&piece[..k])?,
+            // What is answered already is sent before that is told.
+            Err(_) => {
+                let _ = desk.send();
+                return Err(desk.tell("standard input can't be read"));
+            }
+        }
     }
-    if more || !well {
-        return false;
-    }
-    let u = drain(output, errors, a, b, out, st, at);
-    if !u.well {
-        return false;
-    }
-    let v = finish(line, u.s);
-    drain(output, errors, a, b, out, v, 0).well
+    Err(Stopped)
 }
 
 fn main(rt: HostRuntime) -> ExitCode {
-    let mut line = [0u8; 160];
-    let mut a = [0i32; MAX_PAIRS];
-    let mut b = [0i32; MAX_PAIRS];
-    let mut out = [0u8; 131072];
-    if run(
-        &mut rt.stdin(),
-        &mut rt.stdout(),
-        &rt,
-        &mut line,
-        &mut a,
-        &mut b,
-        &mut out,
-    ) {
-        ExitCode::SUCCESS
-    } else {
-        ExitCode::FAILURE
+    match run(&mut rt.stdin(), &mut rt.stdout(), &rt) {
+        Ok(()) => ExitCode::SUCCESS,
+        Err(Stopped) => ExitCode::FAILURE,
     }
 }

@@ -104,7 +104,8 @@ module _ (a b : List ℤ) (before : List ℕ) where
     ladder_rungs = ladder_length (length a) (lean_of a) (lean_of b) rows.some
 
 -- "a .. best separation of 0 stays and any other grows by one" (02, #106): none is 1, since what fits at 1 fits at 0
-pub best_not_one : {a b : List ℤ} {before after : List ℕ} {r : Best} → BestAnswer a b before after r → (best_numbers r).refusal ≡ 0 → (best_numbers r).separation ≡ 1 → ⊥
+pub best_not_one : {a b : List ℤ} {before after : List ℕ} {r : Best} → BestAnswer a b before after r → (best_numbers r).refusal ≡ 0
+    → (best_numbers r).separation ≡ 1 → ⊥
 best_not_one {a} {b} {before} {after} {r} h z e =
     let d = (best_numbers r).lowest in
     let w : HasWiring a b (best_numbers r).separation d = (h.exactly z d).1 (record { low = omega arithℤ; high = h.some z }) in

@@ -48,7 +48,10 @@ one_best : (x y : ℕ → ℤ) → BestOf 1 x y 0
 one_best x y =
     record {
       within = omega arith;
-      some = (x 0 -ℤ y 0, record { low = λ i h. let e : i ≡ 0 = omega arith in rw e (omega arithℤ); high = λ i h. let e : i ≡ 0 = omega arith in rw e (omega arithℤ) });
+      some = (
+        x 0 -ℤ y 0,
+        record { low = λ i h. let e : i ≡ 0 = omega arith in rw e (omega arithℤ); high = λ i h. let e : i ≡ 0 = omega arith in rw e (omega arithℤ) },
+      );
       none = λ t h d f. omega arith;
     }
 
@@ -128,7 +131,10 @@ count_cheap =
 
 -- which trials a level made is told by its best and its even half's
 level_counted : (m : ℕ) (x y : ℕ → ℤ) (h c : ℕ) → c + read_between m (from_half m x y h c).best h ≡ (from_half m x y h c).count
-level_counted m x y h c = cases m x y h (λ (t : Taken). c + read_between m t.best h ≡ t.count) c odd (λ c' p o. past c' p (2 * h) (omega arith)) (λ c' p o. past c' p (2 * h + 1) (omega arith))
+level_counted m x y h c =
+    cases m x y h (λ (t : Taken). c + read_between m t.best h ≡ t.count) c odd
+    (λ c' p o. past c' p (2 * h) (omega arith))
+    (λ c' p o. past c' p (2 * h + 1) (omega arith))
   where
     odd : 0 < h → empty_at m x y (2 * h - 1) ≡ false → c + read_between m (2 * h - 1) h ≡ c + read_at m (2 * h - 1)
     odd s o = rw (lt-ltb 0 h s, lt-ltb (2 * h - 1) (2 * h) (omega arith)) (omega arith)

@@ -20,7 +20,7 @@ use Rattle.best.proofs.Climbs.{over_next}
 
 module _ (e : Entries) (l z : List ℕ) (u : Level) (h : Halved e.len (x_of e) (y_of e) l z u) where
   pub best_inside : u.best < e.len
-  best_inside = omega (arith, e.strided.some, (over_next e.rows.now.accepted e.strided h).0)
+  best_inside = omega (arith, e.strided.some, (over_next e h).0)
 
   -- what was climbed, in words of x and y
   pub planned : (w : Rows) (r : OffsetRange) (t : ℕ) → e.rows.now ≡ w → e.step ≡ 1 → e.len ≡ length w.bottom.now → r ≡ range_of e.len (x_of e) (y_of e) u.best

@@ -102,7 +102,8 @@ module _ (a b : List ℤ) (p s : ℕ) where
   high_from m = rw (smallest_further (high_end x y s) highs (neg_ℤ (pos (p * s))) high_is (m - s - 1)) (sym (high_is (smallest_at highs (m - s - 1))))
 
 -- as a trial works them out, from what is read and in an i32
-module _ (e : Entries) (s : ℕ) (h : s < e.len) (g : OffsetRange) (q : g ≡ read_of e.rows.now.bottom.now e.rows.now.top.now e.step (e.step * s) (e.len - s)) where
+module _ (e : Entries) (s : ℕ) (h : s < e.len) (g : OffsetRange)
+    (q : g ≡ read_of e.rows.now.bottom.now e.rows.now.top.now e.step (e.step * s) (e.len - s)) where
   abbrev a : List ℤ
   a = e.rows.now.bottom.now
 
@@ -146,4 +147,5 @@ module _ (e : Entries) (s : ℕ) (h : s < e.len) (g : OffsetRange) (q : g ≡ re
       })
       (range_of e.len (x_of e) (y_of e) s)
   range_read =
-      rw (low_shown, high_shown, shift, back (g.low +ℤ z) low_inside, back (g.high -ℤ z) high_inside) (rw q (rw (low_from a b e.step s e.len, high_from a b e.step s e.len)))
+      rw (low_shown, high_shown, shift, back (g.low +ℤ z) low_inside, back (g.high -ℤ z) high_inside)
+      (rw q (rw (low_from a b e.step s e.len, high_from a b e.step s e.len)))

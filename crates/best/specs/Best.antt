@@ -19,7 +19,18 @@ Best = Result Planned Refusal
 
 -- the numbers of an answer: "The answer is best separation, its offset range and the count."
 abbrev pub planned_numbers : Planned → Numbers
-planned_numbers p = record { refusal = 0; place = 0; second = 0; separation = p.separation; lowest = p.range.low; highest = p.range.high; pair = 0; side = 0; count = p.count }
+planned_numbers p =
+    record {
+      refusal = 0;
+      place = 0;
+      second = 0;
+      separation = p.separation;
+      lowest = p.range.low;
+      highest = p.range.high;
+      pair = 0;
+      side = 0;
+      count = p.count;
+    }
 
 abbrev pub best_numbers : Best → Numbers
 best_numbers (Ok p) = planned_numbers p

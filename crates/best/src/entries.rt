@@ -10,8 +10,8 @@ use jumper::rows::Rows;
 // parts and at once copied whole.
 #[derive(Clone, Copy)]
 pub(crate) struct Entries<'a> {
-    pub(crate) rows: &'a Rows<'a>,
-    pub(crate) step: usize,
+    rows: &'a Rows<'a>,
+    step: usize,
     pub(crate) len: usize,
     ghost strided: { Strided (length rows.now.bottom.now) step len },
 }

@@ -1,8 +1,8 @@
--- The numbers that the code goes to are those of the event, and the event is read back from them.
+-- The step that the code goes to is that of the event, and the event is read back from it.
 -- Sections: an event that fits the lent rows; told; outside of a line; which frame was read; inside a line.
 use mathlib.Core.Path.{◌≡◌, refl, sym, ap, ◌∙◌, subst}
 use mathlib.Core.Bool.{Bool, true, false, cond, false≢true}
-use mathlib.Core.List.{List, [], ◌++◌}
+use mathlib.Core.List.{List, ◌++◌}
 use Prim.Native.Nat.{ℕ, ◌+◌, ◌-◌, ◌<◌, ◌≤◌}
 use native.Mathlib.Omega.{arith}
 use lib.Dec.{eqb, ltb, leb}
@@ -24,8 +24,8 @@ use Rattle.frame.proofs.Scan.{either}
 use Rattle.frame.specs.declared.read.Order.{Order}
 use Rattle.frame.specs.declared.read.Said.{Said}
 use Rattle.frame.specs.declared.read.Said.TheVariants.{Header, Bottom, Top}
-use Rattle.events.specs.Events.{Mode, ready, inside, skipping, Event, opens, fills, completes, refuses, cuts, passes, mode_after, headed, is_next, fills_bottom, fills_top, event, at_end, noted}
-use Rattle.events.specs.Steps.{fits, line_in, outside, mode_of, has_line, with_line, seen_by, seen_with, machine_at, inside_at, step_to, step_of, bottom_of, top_of, told_by, tells, Told, Stepped, Ended}
+use Rattle.events.specs.Events.{Mode, inside, Event, opens, fills, completes, refuses, cuts, passes, mode_after, headed, is_next, fills_bottom, fills_top, event, at_end, noted}
+use Rattle.events.specs.Steps.{fits, line_in, outside, mode_of, has_line, with_line, seen_by, seen_with, machine_at, inside_at, within, step_to, step_of, bottom_of, top_of, told_by, tells, Told, Stepped}
 use Rattle.events.specs.Parts.{missed, outside_event, framed, count_said, RowFilled, BottomPut, TopPut}
 use Rattle.events.specs.declared.machine.Machine.{Machine}
 use Rattle.events.specs.declared.machine.OpenLine.{OpenLine}
@@ -105,12 +105,16 @@ module _ (a b : List ℤ) (n : ℕ) where
   module _ (e : Event) (h : Fit a b e) (t : Step) (a' b' : List ℤ) (p : a' ≡ puts a 0 (bottom_of e)) (q : b' ≡ puts b 0 (top_of e)) where
     fit_told : t ≡ step_of e n → Told e n a b t a' b'
     unfolding tells
-    fit_told i = rw (i, p, q) (record { answer = refl; bottom = refl; top = refl; event = simp (uncut e h, read_back e h); mode = leads e h; few = few_pairs e h })
+    fit_told i =
+        rw (i, p, q)
+        (record { answer = refl; bottom = refl; top = refl; event = simp (uncut e h, read_back e h); mode = leads e h; few = few_pairs e h })
 
     -- a header that cuts off line l
     cut_told : (l : ℕ) → t ≡ step_of (cuts l e) n → Told (cuts l e) n a b t a' b'
     unfolding tells
-    cut_told l i = rw (i, p, q) (record { answer = refl; bottom = refl; top = refl; event = ap (cuts l) (read_back e h); mode = leads e h; few = few_pairs e h })
+    cut_told l i =
+        rw (i, p, q)
+        (record { answer = refl; bottom = refl; top = refl; event = ap (cuts l) (read_back e h); mode = leads e h; few = few_pairs e h })
 
 step_seen : (e : Event) (n : ℕ) → (step_of e n).machine.seen ≡ n
 step_seen (opens o) n = refl
@@ -131,7 +135,10 @@ stepped : (m : Machine) (a b : List ℤ) (f : Frame) (e : Event) (t : Step) (a' 
 stepped m a b f e t a' b' q k =
     record {
       told = rw q k;
-      seen = λ l h. ap (λ (z : Step). has_line z.machine.seen l) k.answer ∙ ap (λ (z : ℕ). has_line z l) (step_seen e (seen_with m.seen (said_of f))) ∙ seen_noted m.seen f l h;
+      seen = λ l h.
+          ap (λ (z : Step). has_line z.machine.seen l) k.answer
+          ∙ ap (λ (z : ℕ). has_line z l) (step_seen e (seen_with m.seen (said_of f)))
+          ∙ seen_noted m.seen f l h;
     }
 
 -- ---- outside of a line
@@ -194,32 +201,35 @@ end_outside Ready = refl
 end_outside (Inside p) = refl
 end_outside Skipping = refl
 
-module _ (m : Machine) (a b : List ℤ) where
-  mode_outside : line_in m.phase ≡ None → mode_of m a b ≡ outside m.phase
+module _ (m : Machine) (a b : List ℤ) (out : line_in m.phase ≡ None) (t : Step) where
+  mode_outside : mode_of m a b ≡ outside m.phase
   unfolding mode_of
-  mode_outside h = simp h
-
-  mode_inside : (p : OpenLine) → line_in m.phase ≡ Some p → mode_of m a b ≡ inside p.order (take p.bottom a) (take p.top b)
-  unfolding mode_of
-  mode_inside p h = simp h
+  mode_outside = simp out
 
   -- a frame, by what was read and the columns in lent memory
-  pub outside_stepped : (t : Step) (s : Option Said) (cs : List ℤ) → line_in m.phase ≡ None
-      → t ≡ step_of (outside_event m.phase (seen_by m) s) (seen_with m.seen s) → s ≡ said_of (framed s cs) → Stepped m a b (framed s cs) t a b
-  outside_stepped t s cs out i q =
+  pub outside_stepped : (s : Option Said) (cs : List ℤ) → t ≡ step_of (outside_event m.phase (seen_by m) s) (seen_with m.seen s) → s ≡ said_of (framed s cs)
+      → Stepped m a b (framed s cs) t a b
+  outside_stepped s cs i q =
       stepped m a b (framed s cs) (outside_event m.phase (seen_by m) s) t a b
-      (ap (λ (x : Mode). event (seen_by m) x (framed s cs)) (mode_outside out) ∙ outside_event_lem m.phase (seen_by m) s cs)
-      (bare_told a b _ _ t (outside_bare a b m.phase (seen_by m) s) (i ∙ ap (λ (z : Option Said). step_of (outside_event m.phase (seen_by m) s) (seen_with m.seen z)) q))
+      (ap (λ (x : Mode). event (seen_by m) x (framed s cs)) mode_outside ∙ outside_event_lem m.phase (seen_by m) s cs)
+      (bare_told a b _ _ t (outside_bare a b m.phase (seen_by m) s)
+      (i ∙ ap (λ (z : Option Said). step_of (outside_event m.phase (seen_by m) s) (seen_with m.seen z)) q))
 
-  pub inside_bad : (t : Step) (p : OpenLine) → line_in m.phase ≡ Some p → t ≡ step_of (refuses p.order.line BadFrame) m.seen → Stepped m a b bad t a b
-  unfolding event
-  inside_bad t p at i = stepped m a b bad (refuses p.order.line BadFrame) t a b (rw (mode_inside p at)) (bare_told a b _ _ t (refuses_bare a b _ _) i)
+  pub outside_end : t ≡ step_of passes m.seen → Told (at_end (mode_of m a b)) m.seen a b t a b
+  outside_end i = rw (mode_outside, end_outside m.phase) (bare_told a b _ _ t (passes_bare a b) i)
 
-  pub inside_end : (t : Step) (p : OpenLine) → line_in m.phase ≡ Some p → t ≡ step_of (refuses p.order.line Sequence) m.seen → Told (at_end (mode_of m a b)) m.seen a b t a b
-  inside_end t p at i = rw (mode_inside p at) (bare_told a b _ _ t (refuses_bare a b _ _) i)
+module _ (p : OpenLine) (n : ℕ) (ok : fits p ≡ true) (a b : List ℤ) where
+  mode_inside : mode_of (within p n) a b ≡ inside p.order (take p.bottom a) (take p.top b)
+  unfolding mode_of line_in
+  mode_inside = simp ok
 
-  pub outside_end : (t : Step) → line_in m.phase ≡ None → t ≡ step_of passes m.seen → Told (at_end (mode_of m a b)) m.seen a b t a b
-  outside_end t out i = rw (mode_outside out, end_outside m.phase) (bare_told a b _ _ t (passes_bare a b) i)
+  module _ (t : Step) where
+    pub inside_bad : t ≡ step_of (refuses p.order.line BadFrame) n → Stepped (within p n) a b bad t a b
+    unfolding event
+    inside_bad i = stepped (within p n) a b bad (refuses p.order.line BadFrame) t a b (rw mode_inside) (bare_told a b _ _ t (refuses_bare a b _ _) i)
+
+    pub inside_end : t ≡ step_of (refuses p.order.line Sequence) n → Told (at_end (mode_of (within p n) a b)) n a b t a b
+    inside_end i = rw mode_inside (bare_told a b _ _ t (refuses_bare a b _ _) i)
 
 -- ---- which frame was read
 
@@ -245,7 +255,8 @@ framed_back (header o) columns h = refl
 framed_back (bottom l cs) columns h = ap (bottom l) (sym h)
 framed_back (top l cs) columns h = ap (top l) (sym h)
 
-pub read_frame : (text : List ℕ) (columns columns' : List ℤ) (r : Option Said) → length columns ≡ 16 → ReadIn (text_frame text) columns r columns' → text_frame text ≡ framed r columns'
+pub read_frame : (text : List ℕ) (columns columns' : List ℤ) (r : Option Said) → length columns ≡ 16 → ReadIn (text_frame text) columns r columns'
+    → text_frame text ≡ framed r columns'
 read_frame text columns columns' r n h =
     let cs : List ℤ = columns_of (text_frame text) in
     let m = few_all (text_frame text) (few text) in
@@ -259,22 +270,16 @@ pub record Held (p : OpenLine) : Type 0 where
   pub top : p.top ≤ p.order.pairs
   pub few : p.order.pairs ≤ 2048
 
-held_by : (p q : OpenLine) → cond (fits q) (Some q) None ≡ Some p → Held p
+pub held : (p : OpenLine) → fits p ≡ true → Held p
 unfolding fits
-held_by p q h =
-    let f = cond_some _ _ _ h in
-    let x = both (leb q.bottom q.order.pairs) (cond (leb q.top q.order.pairs) (leb q.order.pairs 2048) false) f.0 in
-    let y = both (leb q.top q.order.pairs) (leb q.order.pairs 2048) x.1 in
-    subst Held f.1 (record { bottom = leb-true _ _ x.0; top = leb-true _ _ y.0; few = leb-true _ _ y.1 })
-
-pub held : (q : Phase) (p : OpenLine) → line_in q ≡ Some p → Held p
-unfolding line_in
-held Ready p h = cc
-held (Inside q) p h = held_by p q h
-held Skipping p h = cc
+held p h =
+    let x = both (leb p.bottom p.order.pairs) (cond (leb p.top p.order.pairs) (leb p.order.pairs 2048) false) h in
+    let y = both (leb p.top p.order.pairs) (leb p.order.pairs 2048) x.1 in
+    record { bottom = leb-true _ _ x.0; top = leb-true _ _ y.0; few = leb-true _ _ y.1 }
 
 -- columns written into a row
-pub stored : (row columns : List ℤ) (have : ℕ) → have + length columns ≤ length row → put_mid have (have + length columns - have) row columns ≡ puts row have columns
+pub stored : (row columns : List ℤ) (have : ℕ) → have + length columns ≤ length row
+    → put_mid have (have + length columns - have) row columns ≡ puts row have columns
 stored row columns have h =
     ap (λ (rest : List ℤ). take have row ++ (columns ++ rest)) (Post-is have (have + length columns) row (omega arith)) ∙ sym (puts_is row have columns h)
 
@@ -295,13 +300,14 @@ next o have l k e = leb-true _ _ (both (eqb l o.line) (leb (have + k) o.pairs) e
 
 -- columns were next in a row, or weren't
 module _ (o : Order) (have l : ℕ) (columns row row' : List ℤ) where
-  went : (n : ℕ) → RowFilled o have l columns row (Some n) row' → (is_next o have l (length columns) ≡ true) × (have + length columns ≡ n) × (row' ≡ puts row have columns)
+  went : (n : ℕ) → RowFilled o have l columns row (Some n) row'
+      → (is_next o have l (length columns) ≡ true) × (have + length columns ≡ n) × (row' ≡ puts row have columns)
   went n f = let c = cond_some _ _ _ (sym f.count) in let e = c.0 in (e, c.1, f.put ∙ (simp e))
 
   stopped : RowFilled o have l columns row None row' → (is_next o have l (length columns) ≡ false) × (row' ≡ row)
   stopped f =
       let e : is_next o have l (length columns) ≡ false =
-          either (is_next o have l (length columns)) (λ e. let n : None ≡ Some (have + length columns) = f.count ∙ (simp e) in cc) (λ e. e) in
+      either (is_next o have l (length columns)) (λ e. let n : None ≡ Some (have + length columns) = f.count ∙ (simp e) in cc) (λ e. e) in
       (e, f.put ∙ (simp e))
 
 module _ (p : OpenLine) (h : Held p) (seen : ℕ) (columns row : List ℤ) (l : ℕ) (t : Step) (row' : List ℤ) (full : length row ≡ 2048) where
@@ -320,7 +326,8 @@ module _ (p : OpenLine) (h : Held p) (seen : ℕ) (columns row : List ℤ) (l : 
           put = w.2 ∙ sym (simp (had, e) (after row p.bottom columns (omega arith)));
         }
 
-    pub bottom_out : RowFilled p.order p.bottom l columns row None row' → t ≡ step_of (refuses p.order.line Sequence) seen → BottomPut p seen columns row b l t row'
+    pub bottom_out : RowFilled p.order p.bottom l columns row None row' → t ≡ step_of (refuses p.order.line Sequence) seen
+        → BottomPut p seen columns row b l t row'
     unfolding fills_bottom puts
     bottom_out f i =
         let w = stopped p.order p.bottom l columns row row' f in
@@ -370,9 +377,9 @@ module _ (p : OpenLine) (h : Held p) (seen : ℕ) (columns row : List ℤ) (l : 
     top_early d i q = record { answer = i ∙ sym (simp (tall, ne_eqb _ _ d)); put = q ∙ sym (simp (tall, ne_eqb _ _ d)) }
 
 -- a frame inside a line
-module _ (m : Machine) (p : OpenLine) (a b : List ℤ) (at : line_in m.phase ≡ Some p) (la : length a ≡ 2048) (lb : length b ≡ 2048) where
+module _ (p : OpenLine) (n : ℕ) (ok : fits p ≡ true) (a b : List ℤ) (la : length a ≡ 2048) (lb : length b ≡ 2048) where
   h : Held p
-  h = held m.phase p at
+  h = held p ok
 
   lows : length (take p.bottom a) ≡ p.bottom
   lows = let g = h in length-take-le p.bottom a (omega arith)
@@ -380,12 +387,13 @@ module _ (m : Machine) (p : OpenLine) (a b : List ℤ) (at : line_in m.phase ≡
   highs : length (take p.top b) ≡ p.top
   highs = let g = h in length-take-le p.top b (omega arith)
 
-  pub inside_header : (o : Order) (t : Step) → t ≡ step_of (cuts p.order.line (headed (seen_by m) o)) (with_line m.seen o.line) → Stepped m a b (header o) t a b
+  pub inside_header : (o : Order) (t : Step) → t ≡ step_of (cuts p.order.line (headed (has_line n) o)) (with_line n o.line)
+      → Stepped (within p n) a b (header o) t a b
   unfolding event
   inside_header o t i =
-      let k = headed_bare a b (seen_by m) o in
-      stepped m a b (header o) (cuts p.order.line (headed (seen_by m) o)) t a b (rw (mode_inside m a b p at))
-      (cut_told a b _ (headed (seen_by m) o) k.fit t a b (sym k.low) (sym k.high) p.order.line i)
+      let k = headed_bare a b (has_line n) o in
+      stepped (within p n) a b (header o) (cuts p.order.line (headed (has_line n) o)) t a b (rw (mode_inside p n ok a b))
+      (cut_told a b _ (headed (has_line n) o) k.fit t a b (sym k.low) (sym k.high) p.order.line i)
 
   module _ (l : ℕ) (cs : List ℤ) where
     abbrev low_event : Event
@@ -400,8 +408,9 @@ module _ (m : Machine) (p : OpenLine) (a b : List ℤ) (at : line_in m.phase ≡
         let g = h in
         either (is_next p.order (length (take p.bottom a)) l (length cs))
         (λ e.
-        let n = next p.order (length (take p.bottom a)) l (length cs) e in
-        rw e (record { few = g.few; low = simp length-append n; high = simp highs g.top; low_room = simp length-append (omega arith); high_room = simp highs (omega arith) }))
+        let z = next p.order (length (take p.bottom a)) l (length cs) e in
+        rw e
+        (record { few = g.few; low = simp length-append z; high = simp highs g.top; low_room = simp length-append (omega arith); high_room = simp highs (omega arith) }))
         (λ e. rw e tt)
 
     low_keeps : b ≡ puts b 0 (top_of low_event)
@@ -417,13 +426,13 @@ module _ (m : Machine) (p : OpenLine) (a b : List ℤ) (at : line_in m.phase ≡
         either (cond (eqb (length (take p.bottom a)) p.order.pairs) (is_next p.order (length (take p.top b)) l (length cs)) false)
         (λ e.
         let d = both (eqb (length (take p.bottom a)) p.order.pairs) (is_next p.order (length (take p.top b)) l (length cs)) e in
-        let n = next p.order (length (take p.top b)) l (length cs) d.1 in
+        let z = next p.order (length (take p.top b)) l (length cs) d.1 in
         let f : length (take p.bottom a) ≡ p.order.pairs = eqb-true _ _ d.0 in
         let rows : Rows p.order (take p.bottom a) (take p.top b ++ cs) a b =
-        record { few = g.few; low = omega arith; high = simp length-append n; low_room = omega arith; high_room = simp length-append (omega arith) } in
+        record { few = g.few; low = omega arith; high = simp length-append z; low_room = omega arith; high_room = simp length-append (omega arith) } in
         either (eqb (length (take p.top b) + length cs) p.order.pairs)
-        (λ z. rw (e, z) (rows, f, simp length-append (eqb-true _ _ z)))
-        (λ z. rw (e, z) rows))
+        (λ q. rw (e, q) (rows, f, simp length-append (eqb-true _ _ q)))
+        (λ q. rw (e, q) rows))
         (λ e. rw e tt)
 
     high_keeps : a ≡ puts a 0 (bottom_of high_event)
@@ -432,20 +441,22 @@ module _ (m : Machine) (p : OpenLine) (a b : List ℤ) (at : line_in m.phase ≡
         let g = h in
         either (cond (eqb (length (take p.bottom a)) p.order.pairs) (is_next p.order (length (take p.top b)) l (length cs)) false)
         (λ e. either (eqb (length (take p.top b) + length cs) p.order.pairs)
-        (λ z. rw (e, z) (sym (own a p.bottom (omega arith))))
-        (λ z. rw (e, z) (sym (own a p.bottom (omega arith)))))
+        (λ q. rw (e, q) (sym (own a p.bottom (omega arith))))
+        (λ q. rw (e, q) (sym (own a p.bottom (omega arith)))))
         (λ e. rw e)
 
-  pub inside_bottom : (l : ℕ) (cs : List ℤ) (t : Step) (a' : List ℤ) → ((B : List ℤ) → length B ≡ p.top → BottomPut p m.seen cs a B l t a') → Stepped m a b (bottom l cs) t a' b
+  pub inside_bottom : (l : ℕ) (cs : List ℤ) (t : Step) (a' : List ℤ) → ((B : List ℤ) → length B ≡ p.top → BottomPut p n cs a B l t a')
+      → Stepped (within p n) a b (bottom l cs) t a' b
   unfolding event
   inside_bottom l cs t a' f =
       let k = f (take p.top b) highs in
-      stepped m a b (bottom l cs) (low_event l cs) t a' b (rw (mode_inside m a b p at))
+      stepped (within p n) a b (bottom l cs) (low_event l cs) t a' b (rw (mode_inside p n ok a b))
       (fit_told a b _ (low_event l cs) (low_fit l cs) t a' b k.put (low_keeps l cs) k.answer)
 
-  pub inside_top : (l : ℕ) (cs : List ℤ) (t : Step) (b' : List ℤ) → ((A : List ℤ) → length A ≡ p.bottom → TopPut p m.seen cs A b l t b') → Stepped m a b (top l cs) t a b'
+  pub inside_top : (l : ℕ) (cs : List ℤ) (t : Step) (b' : List ℤ) → ((A : List ℤ) → length A ≡ p.bottom → TopPut p n cs A b l t b')
+      → Stepped (within p n) a b (top l cs) t a b'
   unfolding event
   inside_top l cs t b' f =
       let k = f (take p.bottom a) lows in
-      stepped m a b (top l cs) (high_event l cs) t a b' (rw (mode_inside m a b p at))
+      stepped (within p n) a b (top l cs) (high_event l cs) t a b' (rw (mode_inside p n ok a b))
       (fit_told a b _ (high_event l cs) (high_fit l cs) t a b' (high_keeps l cs) k.put k.answer)

@@ -1,6 +1,6 @@
 -- What a machine stands for, which step tells an event, and what the calls promise. The machine is a phase and a number; the rows of the open line are
 -- in lent memory.
-use Rattle.std.specs.Prelude.{Bool, true, false, cond, ◌≡◌, List, [], ℕ, ◌/◌, ◌%◌, ◌^◌, ◌<◌, ◌≤◌, eqb, leb, length, take, ℤ, Option, None, Some}
+use Rattle.std.specs.Prelude.{Bool, false, cond, ◌≡◌, List, [], ℕ, ◌/◌, ◌%◌, ◌^◌, ◌<◌, ◌≤◌, eqb, leb, length, take, ℤ, Option, None, Some}
 use Rattle.std.specs.Int.Bits.{bit_or}
 use Rattle.jumper.specs.Limits.{max_pairs, max_lines}
 use Rattle.frame.specs.Frame.{Frame, said_of}
@@ -58,13 +58,17 @@ seen_with seen (Some (Header o)) = with_line seen o.line
 seen_with seen (Some (Bottom l k)) = seen
 seen_with seen (Some (Top l k)) = seen
 
--- ---- the numbers of an event
+-- ---- the step of an event
 
 abbrev pub machine_at : Phase → (seen : ℕ) → Machine
 machine_at p seen = record { phase = p; seen = seen }
 
 abbrev pub inside_at : Order → (bottom top : ℕ) → Phase
 inside_at o i j = Inside (record { order = o; bottom = i; top = j })
+
+-- inside of a line
+abbrev pub within : OpenLine → (seen : ℕ) → Machine
+within p seen = machine_at (Inside p) seen
 
 abbrev pub step_to : Machine → Did → Step
 step_to m d = record { machine = m; cut = None; did = d }
@@ -126,7 +130,7 @@ pub record Begun (m : Machine) : Type 0 where
   pub mode : (a b : List ℤ) → mode_of m a b ≡ ready
   pub seen : (l : ℕ) → seen_by m l ≡ false
 
--- An event told: by these numbers, each lent row begins with the event's and is otherwise as it was; read back, with the rows, it is the event, and
+-- An event told: by this step, each lent row begins with the event's and is otherwise as it was; read back, with the rows, it is the event, and
 -- the machine is where the event leads. The pairs of a complete line are few enough for the lent rows.
 pub record Told (e : Event) (seen : ℕ) (a b : List ℤ) (t : Step) (a' b' : List ℤ) : Type 0 where
   pub answer : t ≡ step_of e seen

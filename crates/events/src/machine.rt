@@ -1,6 +1,6 @@
 // The machine of a sheet.
-ghost use Rattle.std.specs.Prelude.{◌≡◌};
-ghost use Rattle.events.specs.Steps.{fits, line_in, Begun};
+ghost use Rattle.std.specs.Prelude.{◌≡◌, true, MatchOption};
+ghost use Rattle.events.specs.Steps.{fits, line_in, within, Begun};
 
 use frame::read::Order;
 use jumper::limits::MAX_PAIRS;
@@ -39,21 +39,31 @@ pub fn fresh() -> Machine
 
 // Whether the counts can be: an open line that no call made may have any.
 #[tactic(auto, unfolding(crate::specs::Steps::fits))]
-fn fits(here: OpenLine) -> bool
-    ensures { result ≡ fits here }
+fn fits(line: OpenLine) -> bool
+    ensures { result ≡ fits line }
 {
-    let pairs = here.order.pairs;
-    here.bottom <= pairs && here.top <= pairs && pairs <= MAX_PAIRS
+    let pairs = line.order.pairs;
+    line.bottom <= pairs && line.top <= pairs && pairs <= MAX_PAIRS
+}
+
+// A machine inside a line: the open line, whose counts can be, and the line numbers seen.
+#[derive(Clone, Copy)]
+pub(crate) struct Within {
+    pub(crate) line: OpenLine,
+    pub(crate) seen: u64,
+    ghost held: { fits line ≡ true },
 }
 
 impl Machine {
-    // The line that it is inside of.
-    #[tactic(auto, unfolding(crate::specs::Steps::line_in))]
-    pub(crate) fn line(self) -> Option<OpenLine>
-        ensures { result ≡ line_in self.phase }
+    #[tactic(auto, unfolding(crate::specs::Steps::fits, crate::specs::Steps::line_in))]
+    pub(crate) fn within(self) -> Option<Within>
+        ensures { MatchOption result (line_in self.phase ≡ None) (λ w. self ≡ within w.line w.seen) }
     {
         match self.phase {
-            Phase::Inside(here) if fits(here) => Some(here),
+            Phase::Inside(line) if fits(line) => Some(Within {
+                line,
+                seen: self.seen,
+            }),
             _ => None,
         }
     }

@@ -1,12 +1,12 @@
 // A whole line of text taken in (01's machine): what it does.
-ghost use Rattle.std.specs.Prelude.{◌≡◌, Some, List, ◌+◌, ◌≤◌, length, MatchResult, ℤ};
+ghost use Rattle.std.specs.Prelude.{◌≡◌, List, ◌≤◌, length, MatchResult, ℤ};
 ghost use Rattle.frame.specs.Frame.{bad, text_frame};
 ghost use Rattle.jumper.specs.Limits.{max_pairs};
 ghost use Rattle.events.specs.Events.{opens, refuses, passes, headed, is_next};
-ghost use Rattle.events.specs.Steps.{line_in, has_line, seen_by, seen_with, with_line, machine_at, step_to, cut_off, step_of, Stepped, Ended};
+ghost use Rattle.events.specs.Steps.{has_line, seen_by, seen_with, with_line, machine_at, within, step_to, cut_off, step_of, Stepped, Ended};
 ghost use Rattle.events.specs.Parts.{missed, outside_event, framed, count_said, RowFilled, BottomPut, TopPut};
 
-use crate::machine::{Machine, OpenLine, Phase};
+use crate::machine::{Machine, OpenLine, Phase, Within};
 use crate::seen::{has_line, with_line};
 use frame::read::{Order, Said, read_text};
 use jumper::limits::{MAX_LINES, MAX_PAIRS};
@@ -76,19 +76,19 @@ fn check_header(seen: u64, o: Order) -> Result<(), Refusal>
 }
 
 // A good header: refused, or its line is open.
-fn head(m: Machine, o: Order) -> Step
-    ensures { result ≡ step_of (headed (seen_by m) o) (with_line m.seen o.line) }
+fn head(before: u64, o: Order) -> Step
+    ensures { result ≡ step_of (headed (has_line before) o) (with_line before o.line) }
 {
-    let seen = with_line(m.seen, o.line);
-    if let Err(r) = check_header(m.seen, o) {
+    let seen = with_line(before, o.line);
+    if let Err(r) = check_header(before, o) {
         return refuse(o.line, r, seen);
     }
-    let here = OpenLine {
+    let line = OpenLine {
         order: o,
         bottom: 0,
         top: 0,
     };
-    go(Phase::Inside(here), seen, Did::Opened)
+    go(Phase::Inside(line), seen, Did::Opened)
 }
 
 // A frame that isn't a header, outside of a line.
@@ -105,7 +105,7 @@ fn on_outside(m: Machine, said: Option<Said>) -> Step
     ensures { result ≡ step_of (outside_event m.phase (seen_by m) said) (seen_with m.seen said) }
 {
     match said {
-        Some(Said::Header(o)) => head(m, o),
+        Some(Said::Header(o)) => head(m.seen, o),
         Some(_) => miss(m, Refusal::Sequence),
         None => miss(m, Refusal::Frame),
     }
@@ -113,40 +113,59 @@ fn on_outside(m: Machine, said: Option<Said>) -> Step
 
 // Columns for a line go into a row of the open line that has some already, if they are next in it: how many it has then.
 #[tactic(auto, unfolding(crate::specs::Events::is_next))]
-fn fill(columns: &[i32], row: &mut [i32; MAX_PAIRS], order: Order, have: usize, line: u8) -> Option<usize>
-    requires { (have ≤ order.pairs) × (order.pairs ≤ max_pairs) × (length columns.now ≤ 16) }
+fn fill(
+    columns: &[i32],
+    row: &mut [i32; MAX_PAIRS],
+    order: Order,
+    have: usize,
+    line: u8,
+) -> Option<usize>
+    requires { (have ≤ order.pairs) × (order.pairs ≤ max_pairs) }
     ensures { RowFilled order have line columns.now row.old result row.new }
 {
-    let n = have + columns.len();
-    if line != order.line || order.pairs < n {
+    if line != order.line || order.pairs - have < columns.len() {
         return None;
     }
+    let n = have + columns.len();
     row[have..n].copy_from_slice(columns);
     Some(n)
 }
 
-fn on_bottom(columns: &[i32], a: &mut [i32; MAX_PAIRS], m: Machine, here: OpenLine, line: u8) -> Step
-    requires { (line_in m.phase ≡ Some here) × (length columns.now ≤ 16) }
-    ensures { (b : List ℤ) → length b ≡ here.top → BottomPut here m.seen columns.now a.old b line result a.new }
+// The open line is refused.
+fn refuse_open(w: Within, r: Refusal) -> Step
+    ensures { result ≡ step_of (refuses w.line.order.line r) w.seen }
 {
-    let Some(bottom) = fill(columns, a, here.order, here.bottom, line) else {
-        return refuse(here.order.line, Refusal::Sequence, m.seen);
-    };
-    go(Phase::Inside(OpenLine { bottom, ..here }), m.seen, Did::Filled)
+    refuse(w.line.order.line, r, w.seen)
 }
 
-fn on_top(columns: &[i32], b: &mut [i32; MAX_PAIRS], m: Machine, here: OpenLine, line: u8) -> Step
-    requires { (line_in m.phase ≡ Some here) × (length columns.now ≤ 16) }
-    ensures { (a : List ℤ) → length a ≡ here.bottom → TopPut here m.seen columns.now a b.old line result b.new }
+fn on_bottom(columns: &[i32], a: &mut [i32; MAX_PAIRS], w: Within, line: u8) -> Step
+    ensures { (b : List ℤ) → length b ≡ w.line.top → BottomPut w.line w.seen columns.now a.old b line result a.new }
 {
-    let order = here.order;
-    if here.bottom != order.pairs {
-        return refuse(order.line, Refusal::Sequence, m.seen);
+    match fill(columns, a, w.line.order, w.line.bottom, line) {
+        Some(bottom) => go(
+            Phase::Inside(OpenLine { bottom, ..w.line }),
+            w.seen,
+            Did::Filled,
+        ),
+        None => refuse_open(w, Refusal::Sequence),
     }
-    match fill(columns, b, order, here.top, line) {
-        Some(top) if top == order.pairs => go(Phase::Ready, m.seen, Did::Completed(order)),
-        Some(top) => go(Phase::Inside(OpenLine { top, ..here }), m.seen, Did::Filled),
-        None => refuse(order.line, Refusal::Sequence, m.seen),
+}
+
+fn on_top(columns: &[i32], b: &mut [i32; MAX_PAIRS], w: Within, line: u8) -> Step
+    ensures { (a : List ℤ) → length a ≡ w.line.bottom → TopPut w.line w.seen columns.now a b.old line result b.new }
+{
+    let order = w.line.order;
+    if w.line.bottom != order.pairs {
+        return refuse_open(w, Refusal::Sequence);
+    }
+    match fill(columns, b, order, w.line.top, line) {
+        Some(top) if top == order.pairs => go(Phase::Ready, w.seen, Did::Completed(order)),
+        Some(top) => go(
+            Phase::Inside(OpenLine { top, ..w.line }),
+            w.seen,
+            Did::Filled,
+        ),
+        None => refuse_open(w, Refusal::Sequence),
     }
 }
 
@@ -165,18 +184,16 @@ fn on_inside(
     columns: &[i32; 16],
     a: &mut [i32; MAX_PAIRS],
     b: &mut [i32; MAX_PAIRS],
-    m: Machine,
-    here: OpenLine,
+    w: Within,
 ) -> Step
-    requires { (line_in m.phase ≡ Some here) × (count_said said ≤ 16) }
-    ensures { Stepped m a.old b.old (framed said columns.now) result a.new b.new }
+    requires { count_said said ≤ 16 }
+    ensures { Stepped (within w.line w.seen) a.old b.old (framed said columns.now) result a.new b.new }
 {
-    let line = here.order.line;
     match said {
-        Some(Said::Header(o)) => cut_off(line, head(m, o)),
-        Some(Said::Bottom(l, k)) => on_bottom(&columns[..k], a, m, here, l),
-        Some(Said::Top(l, k)) => on_top(&columns[..k], b, m, here, l),
-        None => refuse(line, Refusal::Frame, m.seen),
+        Some(Said::Header(o)) => cut_off(w.line.order.line, head(w.seen, o)),
+        Some(Said::Bottom(l, k)) => on_bottom(&columns[..k], a, w, l),
+        Some(Said::Top(l, k)) => on_top(&columns[..k], b, w, l),
+        None => refuse_open(w, Refusal::Frame),
     }
 }
 
@@ -186,8 +203,8 @@ pub fn on_text(text: &[u8], a: &mut [i32; MAX_PAIRS], b: &mut [i32; MAX_PAIRS], 
 {
     let mut columns = [0i32; 16];
     let said = read_text(text, &mut columns);
-    match m.line() {
-        Some(here) => on_inside(said, &columns, a, b, m, here),
+    match m.within() {
+        Some(w) => on_inside(said, &columns, a, b, w),
         None => on_outside(m, said),
     }
 }
@@ -196,8 +213,8 @@ pub fn on_text(text: &[u8], a: &mut [i32; MAX_PAIRS], b: &mut [i32; MAX_PAIRS], 
 pub fn on_rest(m: Machine) -> Step
     ensures { (a b : List ℤ) → Stepped m a b bad result a b }
 {
-    match m.line() {
-        Some(here) => refuse(here.order.line, Refusal::Frame, m.seen),
+    match m.within() {
+        Some(w) => refuse_open(w, Refusal::Frame),
         None => miss(m, Refusal::Frame),
     }
 }
@@ -206,8 +223,8 @@ pub fn on_rest(m: Machine) -> Step
 pub fn on_end(m: Machine) -> Step
     ensures { Ended m result }
 {
-    match m.line() {
-        Some(here) => refuse(here.order.line, Refusal::Sequence, m.seen),
+    match m.within() {
+        Some(w) => refuse_open(w, Refusal::Sequence),
         None => pass(m.seen),
     }
 }

@@ -128,3 +128,6 @@ module _ {a b : List ℤ} (r : AcceptedRows a b) (s : ℕ) (few : s < length a) 
 
   pub fit_high_gap : mag ((gaps_of a b s).high -ℤ pos s) < 2 ^ 31
   fit_high_gap = let i = smallest_at (high_gap a b s) (length a - s - 1) in fit_high r s (i + s) i few
+
+-- what the code asks of a pair, for its tests
+pub ruleset tests = (right_fits, left_top_fits, left_bottom_fits, right_tested, left_tested)

@@ -20,9 +20,7 @@ use Rattle.wiring.proofs.Rule.{lean_steady, fits_above, fits_past, ends_next, ri
 use Rattle.wiring.proofs.Serves.{rule_zero, rule_back, rule_below, rule_fewer, tracks_zero, tracks_up}
 use Rattle.jumper.specs.Limits.{max_tracks}
 use Rattle.jumper.specs.Rows.{Checked, or_else, check_rows}
-use Rattle.jumper.specs.Asked.{offset_fault, check_offset, check_asked, AcceptedShift, Asked}
-use Rattle.jumper.specs.declared.refusal.Side.{Side}
-use Rattle.jumper.specs.declared.refusal.Side.TheVariants.{Right, Left}
+use Rattle.jumper.specs.Asked.{offset_fault, check_offset, check_asked, AcceptedShift}
 use Rattle.jumper.specs.declared.refusal.Refusal.{Refusal}
 use Rattle.jumper.proofs.Accepted.{numbered, refused_not}
 use Rattle.jumper.proofs.Checks.{shift_accepted}

@@ -1,5 +1,5 @@
 -- The search for the least misfit: its steps as the code takes them, and what it says of the rule and of wirings.
-use Rattle.std.specs.Prelude.{Option, Some, None, Ok, Err}
+use Rattle.std.specs.Prelude.{Option, Some, None, Err}
 use mathlib.Core.Path.{◌≡◌, refl, sym, ◌∙◌}
 use mathlib.Core.Bool.{Bool, true, false, cond}
 use mathlib.Core.List.{List}
@@ -25,7 +25,7 @@ use Rattle.jumper.specs.declared.refusal.Side.TheVariants.{Right, Left}
 use Rattle.jumper.specs.declared.refusal.Refusal.{Refusal}
 use Rattle.jumper.proofs.Wired.{wiring_exactly}
 use Rattle.jumper.proofs.Accepted.{numbered, refused_not}
-use Rattle.jumper.proofs.Checks.{accepted_asked, asked_accepted, early_asked}
+use Rattle.jumper.proofs.Checks.{asked_accepted, early_asked}
 use Rattle.fit.specs.Misfit.{too_right, too_left, side_broken, misfit_at, misfit_from, misfit_of, no_fit, PadsPrevent, Witness, FitAnswer}
 use Rattle.fit.specs.declared.misfit.Misfit.{Misfit}
 

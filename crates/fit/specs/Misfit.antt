@@ -22,6 +22,7 @@ too_left x y s d i = lt_z d (low_end x y s i)
 abbrev pub side_broken : (x y : ℕ → ℤ) (s : ℕ) (d : ℤ) (i : ℕ) → Option Side
 side_broken x y s d i = cond (too_right x y s d i) (Some Right) (cond (too_left x y s d i) (Some Left) None)
 
+-- the misfit of pair i on side k
 abbrev pub misfit_at : ℕ → Side → Misfit
 misfit_at i k = record { pair = i; side = k }
 

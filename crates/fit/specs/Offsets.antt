@@ -18,10 +18,11 @@ abbrev pub offsets_numbers : Result OffsetRange Refusal → Numbers
 offsets_numbers (Ok r) = range_numbers r
 offsets_numbers (Err r) = refusal_numbers r
 
--- the differences of columns from which the ends at s are read: each low end is its gap and s more, each high end its gap less s
+-- how far bottom pad i stands right of top pad j
 abbrev pub gap : (a b : List ℤ) (i j : ℕ) → ℤ
 gap a b i j = pad a i -ℤ pad b j
 
+-- the gaps from which the ends at s are read: each low end is its gap and s more, each high end its gap less s
 abbrev pub low_gap : (a b : List ℤ) (s i : ℕ) → ℤ
 low_gap a b s i = gap a b i (i + s)
 

@@ -17,6 +17,7 @@ pub struct Misfit {
 }
 
 // On which side pair i breaks the rule, if it does. Here and in the search s is the number at which the rule is read.
+#[tactic(auto, using(crate::proofs::Ends::tests))]
 fn side_broken(q: Question<'_>, s: usize, i: usize) -> Option<Side>
     requires { i + s < length q.rows.bottom.now }
     ensures { result ≡ side_broken (lean_of q.entry.rows.bottom.now) (lean_of q.entry.rows.top.now) s q.entry.offset i }
@@ -33,9 +34,10 @@ fn side_broken(q: Question<'_>, s: usize, i: usize) -> Option<Side>
 }
 
 // The search for the least misfit from pair `from` on: it serves `fit`, the least separation and its witness, and the stretch.
+#[tactic(auto, using(crate::proofs::Misfits::free_here, crate::proofs::Misfits::at_end_lem))]
 pub(crate) fn misfit_from(q: Question<'_>, s: usize, from: usize) -> Option<Misfit>
     requires { from ≤ length q.rows.bottom.now }
-    ensures { result ≡ misfit_from (lean_of q.entry.rows.bottom.now) (lean_of q.entry.rows.top.now) s q.entry.offset from (length q.entry.rows.bottom.now - s - from) }
+    ensures { let a = q.entry.rows.bottom.now in result ≡ misfit_from (lean_of a) (lean_of q.entry.rows.top.now) s q.entry.offset from (length a - s - from) }
 {
     for i in from..q.rows.bottom.len().saturating_sub(s) {
         if let Some(side) = side_broken(q, s, i) {
@@ -45,7 +47,8 @@ pub(crate) fn misfit_from(q: Question<'_>, s: usize, from: usize) -> Option<Misf
     None
 }
 
-// The least misfit: none where the offset is in the range of the separation, which is quick to read; else it is sought.
+// The least misfit: none where the offset is in the range of the separation, which is quick to read; else it is sought. It is inlined, since a question that
+// is passed on goes through memory.
 #[inline]
 pub(crate) fn first_misfit(q: Question<'_>) -> Option<Misfit>
     ensures { result ≡ misfit_of q.entry.rows.bottom.now q.entry.rows.top.now (rule_at q.entry.separation) q.entry.offset }

@@ -55,12 +55,13 @@ pub(crate) fn range_of(rows: Rows<'_>, s: usize) -> OffsetRange
     }
 }
 
-// The first of the pairs with this gap between bottom pad i on and top pad j on: an end's own gap finds the pair that sets it. Only a refusal asks for it, so the
-// loop above is spared the places.
+// The first of the pairs with this gap between bottom pad i on and top pad j on: an end's own gap finds the pair that sets it. Only a refusal asks for it, so
+// the loop above is spared the places.
 fn first_with(rows: Rows<'_>, i: usize, j: usize, wanted: i32) -> usize
     requires { (i < length rows.bottom.now) × (j < length rows.bottom.now) }
     ensures before { (k : ℕ) → k < result → gap rows.entry.bottom.now rows.entry.top.now (k + i) (k + j) ≢ wanted }
-    ensures found { (k : ℕ) → k + i + j < length rows.entry.bottom.now → gap rows.entry.bottom.now rows.entry.top.now (k + i) (k + j) ≡ wanted → gap rows.entry.bottom.now rows.entry.top.now (result + i) (result + j) ≡ wanted }
+    ensures found { let at = gap rows.entry.bottom.now rows.entry.top.now in
+        (k : ℕ) → k + i + j < length rows.entry.bottom.now → at (k + i) (k + j) ≡ wanted → at (result + i) (result + j) ≡ wanted }
 {
     for k in 0..rows.bottom.len().saturating_sub(i + j) {
         if gap(rows, k + i, k + j) == wanted {
@@ -70,6 +71,7 @@ fn first_with(rows: Rows<'_>, i: usize, j: usize, wanted: i32) -> usize
     0
 }
 
+#[tactic(auto, using(crate::proofs::Spans::low_fits, crate::proofs::Spans::high_fits))]
 fn range_found(rows: Rows<'_>, s: usize) -> Result<OffsetRange, Refusal>
     requires { s ≤ max_tracks }
     ensures { result ≡ range_found (length rows.entry.bottom.now) (lean_of rows.entry.bottom.now) (lean_of rows.entry.top.now) s }

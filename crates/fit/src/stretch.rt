@@ -9,7 +9,7 @@ use jumper::asked::Question;
 use jumper::rows::Rows;
 use jumper::serves::rule_at;
 
-// How many columns pads i to i + s of a row span.
+// How many columns pads i to i + s of a row span. Here and in `narrower` s is the rule's number.
 fn span_of(a: &[i32], i: usize, s: usize) -> i32
     requires { AcceptedRow a.now × (i + s < length a.now) }
     ensures { result ≡ span a.now i s }
@@ -17,6 +17,7 @@ fn span_of(a: &[i32], i: usize, s: usize) -> i32
     a[i + s] - a[i]
 }
 
+// The stretch at fault, in the row where it lies: an empty part at the bottom row's start where there is none.
 pub fn stretch<'a>(a: &'a [i32], b: &'a [i32], s: usize, d: i32) -> &'a [i32]
     ensures { result.now ≡ stretch_of a.now b.now s d }
 {
@@ -72,7 +73,11 @@ fn narrower(rows: Rows<'_>, i: usize, s: usize) -> Place
     ensures { result ≡ record { row = cond (le_z (span rows.entry.bottom.now i s) (span rows.entry.top.now i s)) 0 1; start = i; pads = s + 1 } }
 {
     Place {
-        row: if span_of(rows.bottom, i, s) <= span_of(rows.top, i, s) { 0 } else { 1 },
+        row: if span_of(rows.bottom, i, s) <= span_of(rows.top, i, s) {
+            0
+        } else {
+            1
+        },
         start: i,
         pads: s + 1,
     }

@@ -101,7 +101,8 @@ four_back : (z : ℤ) → SFits w32 z
     → to_z w32 (16777216 * (of_z w32 z / 16777216 % 256) + 65536 * (of_z w32 z / 65536 % 256) + 256 * (of_z w32 z / 256 % 256) + of_z w32 z % 256) ≡ z
 four_back z f =
     let s : of_z w32 z < 2 ^ 32 = (of_z_fits w32 z f).fits in
-    let e : 16777216 * (of_z w32 z / 16777216 % 256) + 65536 * (of_z w32 z / 65536 % 256) + 256 * (of_z w32 z / 256 % 256) + of_z w32 z % 256 ≡ of_z w32 z = four_nat (of_z w32 z) s in
+    let e : 16777216 * (of_z w32 z / 16777216 % 256) + 65536 * (of_z w32 z / 65536 % 256) + 256 * (of_z w32 z / 256 % 256) + of_z w32 z % 256 ≡ of_z w32 z =
+    four_nat (of_z w32 z) s in
     ap (to_z w32) e ∙ to_z-of_z w32 z f
 
 -- ---- columns
@@ -140,7 +141,8 @@ fours_back p q (z ∷ zs) h =
     let n : length p + 4 ≡ length (p ++ four_bytes z) = sym (length-append p (four_bytes z)) in
     let first : four all (length p) ≡ z = ap (λ (l : List ℕ). four l (length p)) e ∙ four_after p (column_bytes zs ++ q) z h.0 in
     let rest : fours all (length p + 4) (length zs) ≡ zs =
-    ap (λ (l : List ℕ). fours l (length p + 4) (length zs)) f ∙ ap (λ (k : ℕ). fours ((p ++ four_bytes z) ++ (column_bytes zs ++ q)) k (length zs)) n ∙ fours_back (p ++ four_bytes z) q zs h.1 in
+    ap (λ (l : List ℕ). fours l (length p + 4) (length zs)) f ∙ ap (λ (k : ℕ). fours ((p ++ four_bytes z) ++ (column_bytes zs ++ q)) k (length zs)) n
+    ∙ fours_back (p ++ four_bytes z) q zs h.1 in
     ap (λ (x : ℤ). x ∷ fours all (length p + 4) (length zs)) first ∙ ap (λ (l : List ℤ). z ∷ l) rest
 
 -- ---- the law
@@ -155,7 +157,8 @@ Writable (top l cs) = (l < 256) × (1 ≤ length cs) × (length cs ≤ 16) × Fi
 carrier_count : (kind l w : ℕ) (cs : List ℤ) → 1 ≤ length cs → length cs ≤ 16 → count_of (kind ∷ l ∷ length cs ∷ (column_bytes cs ++ (w ∷ []))) ≡ length cs
 unfolding count_of
 carrier_count kind l w cs a b =
-    let n : length (kind ∷ l ∷ length cs ∷ (column_bytes cs ++ (w ∷ []))) ≡ 4 * length cs + 4 = let m = length-append (column_bytes cs) (w ∷ []) in let k = columns_length cs in omega arith in
+    let n : length (kind ∷ l ∷ length cs ∷ (column_bytes cs ++ (w ∷ []))) ≡ 4 * length cs + 4 =
+    let m = length-append (column_bytes cs) (w ∷ []) in let k = columns_length cs in omega arith in
     simp (le-leb _ _ a, le-leb _ _ b, eq-eqb _ _ n)
 
 carrier_back : (row : ℕ → List ℤ → Frame) (kind l w : ℕ) (cs : List ℤ) → 1 ≤ length cs → length cs ≤ 16 → Fitting cs
@@ -170,7 +173,8 @@ unfolding written kind_of header_of
 written_back bad h = absurd h
 written_back (header o) h =
     let bs : List ℕ = input_bytes (header o) in
-    line_back bs (omega arith, (h.0, (omega arith, (omega arith, (omega arith, (omega arith, (omega arith, (omega arith, (omega arith, (omega arith, tt))))))))))
+    line_back bs
+    (omega arith, (h.0, (omega arith, (omega arith, (omega arith, (omega arith, (omega arith, (omega arith, (omega arith, (omega arith, tt))))))))))
     ∙ simp (two_back o.pairs h.1, two_back o.separation h.2, four_back o.offset h.3)
 written_back (bottom l cs) h =
     line_back (input_bytes (bottom l cs)) (omega arith, (h.0, (omega (arith, h.2), column_bytes_lem cs)))

@@ -1,5 +1,5 @@
 -- What a good frame has, and how the reader's steps come to the definition.
-use Rattle.std.proofs.Common.{◌≡◌, ℕ, zero, suc, ◌+◌, ◌-◌, ◌*◌, ◌/◌, ◌%◌, ◌<◌, ◌≤◌, Bool, true, false, cond, eqb, leb, List, [], ◌∷◌, ◌++◌, length, get_or, take, drop, ℤ, pos, Option, Some, None, sym, refl, ap, ◌∙◌, arith, zero-add, drop-cons, drop_of_length-le, length-append, lt-ltb, eq-eqb, ne_eqb, eqb-true, le-leb, leb-true}
+use Rattle.std.proofs.Common.{◌≡◌, ℕ, ◌+◌, ◌-◌, ◌*◌, ◌%◌, ◌<◌, ◌≤◌, Bool, true, false, cond, eqb, leb, List, [], ◌∷◌, ◌++◌, length, get_or, take, drop, ℤ, pos, Option, Some, None, sym, refl, ap, ◌∙◌, arith, zero-add, drop-cons, drop_of_length-le, length-append, lt-ltb, eq-eqb, ne_eqb, eqb-true, le-leb, leb-true}
 use mathlib.Core.Bool.{false≢true}
 use lib.Pointwise.{pointwise}
 use lib.Seq.{take-append_seam, get_or-append_seam}
@@ -9,7 +9,7 @@ use Rattle.std.specs.Option.{option_map}
 use Rattle.frame.specs.Hex.{bytes_of, is_sound, Decoded}
 use Rattle.frame.specs.Frame.{Frame, bad, header, bottom, top, one, four, fours, header_of, count_of, carrier_of, kind_of, text_frame, is_fed, frame_of, said_of, columns_of}
 use Rattle.frame.specs.declared.read.Said.{Said}
-use Rattle.frame.specs.declared.read.Said.TheVariants.{Header, Bottom, Top}
+use Rattle.frame.specs.declared.read.Said.TheVariants.{Bottom, Top}
 use Rattle.frame.specs.Puts.{puts, Carried, ReadIn}
 use Rattle.frame.proofs.Scan.{either, bytes_length}
 use Rattle.frame.proofs.Puts.{puts_is, fours_length, get_or_fours}
@@ -156,7 +156,8 @@ module _ (bs : List ℕ) where
       → ((i : ℕ) → i < k → get_or row i (pos 0) ≡ four bs (4 * i + 3)) → Carried bs columns (Some k) (row ++ drop k columns)
   carried columns row k e z most n room l h =
       let c : count_of bs ≡ k = count_is (omega arith) (omega arith) (n ∙ ap (λ (j : ℕ). 4 * j + 4) e) ∙ sym e in
-      let r : row ≡ fours bs 3 k = ext_get_or (pos 0) row (fours bs 3 k) (l ∙ sym (fours_length bs 3 k)) (λ i g. h i (omega arith) ∙ sym (get_or_fours bs 3 k i (omega arith))) in
+      let r : row ≡ fours bs 3 k =
+      ext_get_or (pos 0) row (fours bs 3 k) (l ∙ sym (fours_length bs 3 k)) (λ i g. h i (omega arith) ∙ sym (get_or_fours bs 3 k i (omega arith))) in
       let f = fours_length bs 3 k in
       record {
         count = simp (c, ne_eqb k 0 z);
@@ -183,7 +184,8 @@ module _ (bs : List ℕ) (n : length bs ≡ 11) where
   no_columns : columns_of (kind_of bs) ≡ []
   unfolding kind_of header_of
   no_columns =
-      cond_elim (λ (f : Frame). columns_of f ≡ []) (eqb (one bs 0) 16) (λ _. cond_elim (λ (f : Frame). columns_of f ≡ []) (eqb (length bs) 11) (λ _. refl) (λ _. refl))
+      cond_elim (λ (f : Frame). columns_of f ≡ []) (eqb (one bs 0) 16)
+      (λ _. cond_elim (λ (f : Frame). columns_of f ≡ []) (eqb (length bs) 11) (λ _. refl) (λ _. refl))
       (λ _. cond_elim (λ (f : Frame). columns_of f ≡ []) (eqb (one bs 0) 17) (λ _. ap columns_of (no_carrier bottom))
       (λ _. cond_elim (λ (f : Frame). columns_of f ≡ []) (eqb (one bs 0) 18) (λ _. ap columns_of (no_carrier top)) (λ _. refl)))
 
@@ -194,8 +196,10 @@ module _ (bs : List ℕ) (n : length bs ≡ 11) where
 -- what bytes of one kind say
 module _ (bs : List ℕ) (columns columns' : List ℤ) where
   -- of columns, in either row
-  module _ (row : ℕ → List ℤ → Frame) (says : ℕ → ℕ → Said) (s : (l : ℕ) (cs : List ℤ) → said_of (row l cs) ≡ Some (says l (length cs))) (c : (l : ℕ) (cs : List ℤ) → columns_of (row l cs) ≡ cs) where
-    row_in : kind_of bs ≡ carrier_of row bs → (r : Option ℕ) → Carried bs columns r columns' → ReadIn (kind_of bs) columns (option_map (says (one bs 1)) r) columns'
+  module _ (row : ℕ → List ℤ → Frame) (says : ℕ → ℕ → Said) (s : (l : ℕ) (cs : List ℤ) → said_of (row l cs) ≡ Some (says l (length cs)))
+      (c : (l : ℕ) (cs : List ℤ) → columns_of (row l cs) ≡ cs) where
+    row_in : kind_of bs ≡ carrier_of row bs → (r : Option ℕ) → Carried bs columns r columns'
+        → ReadIn (kind_of bs) columns (option_map (says (one bs 1)) r) columns'
     unfolding carrier_of fours
     row_in is r h =
         either (eqb (count_of bs) 0)
@@ -257,7 +261,7 @@ fed_is [] = refl
 fed_is (b ∷ bs) =
     let n : length bs < length (b ∷ bs) = omega arith in
     let d : drop (length bs) (b ∷ bs) ≡ get_or (b ∷ bs) (length bs) 0 ∷ [] =
-        drop-cons (b ∷ bs) (length bs) 0 n ∙ ap (λ (l : List ℕ). get_or (b ∷ bs) (length bs) 0 ∷ l) (drop_of_length-le bs (omega arith)) in
+    drop-cons (b ∷ bs) (length bs) 0 n ∙ ap (λ (l : List ℕ). get_or (b ∷ bs) (length bs) 0 ∷ l) (drop_of_length-le bs (omega arith)) in
     let z : 0 < length (b ∷ bs) = omega arith in
     let m : length (b ∷ bs) - 1 ≡ length bs = omega arith in
     either (eqb (get_or (b ∷ bs) (length bs) 0) 10) (λ e. simp (lt-ltb _ _ z, m, d, e)) (λ e. simp (lt-ltb _ _ z, m, d, e))

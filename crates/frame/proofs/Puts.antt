@@ -1,6 +1,6 @@
 -- Runs of stores: a line's digits, a row's columns.
 -- Sections: stores in general; a frame's line; columns; the two frames of an answer.
-use Rattle.std.proofs.Common.{◌≡◌, ℕ, zero, suc, ◌+◌, ◌-◌, ◌*◌, ◌%◌, ◌<◌, ◌≤◌, List, [], ◌∷◌, ◌++◌, length, get_or, take, drop, set, sum, ℤ, pos, sym, refl, ap, ◌∙◌, append_assoc, append-nil, add-one, arith, length-append, length-set, length-take-le, take-append-drop, take-suc-set}
+use Rattle.std.proofs.Common.{◌≡◌, ℕ, zero, suc, ◌+◌, ◌*◌, ◌%◌, ◌<◌, ◌≤◌, List, [], ◌∷◌, ◌++◌, length, get_or, take, drop, set, sum, pos, sym, refl, ap, ◌∙◌, append_assoc, add-one, arith, length-append, length-set, length-take-le, take-append-drop, take-suc-set}
 use Rattle.std.specs.List.{flat_map}
 use Rattle.std.proofs.lemmas.Grind.{flat_map-append}
 use Rattle.std.proofs.lemmas.List.{take_at, take_more, drop-set-lt}
@@ -20,7 +20,7 @@ puts_is {A} l at (v ∷ vs) h =
     let e : at + 1 + length vs ≡ at + suc (length vs) = omega arith in
     let t : take (at + 1) (set l at v) ≡ take at l ++ (v ∷ []) = rw (add-one, take-suc-set l at v (omega arith)) in
     let d : drop (at + 1 + length vs) (set l at v) ≡ drop (at + suc (length vs)) l =
-        drop-set-lt (at + 1 + length vs) l at v (omega arith) ∙ ap (λ (n : ℕ). drop n l) e in
+    drop-set-lt (at + 1 + length vs) l at v (omega arith) ∙ ap (λ (n : ℕ). drop n l) e in
     puts_is (set l at v) (at + 1) vs (simp length-set (omega arith))
     ∙ ap (λ (p : List A). p ++ (vs ++ drop (at + 1 + length vs) (set l at v))) t
     ∙ ap (λ (p : List A). (take at l ++ (v ∷ [])) ++ (vs ++ p)) d
@@ -86,18 +86,18 @@ line_end start bs out out' at p r ep fits so er e =
     let l = line_length bs in
     let n : p ≡ at + length (text_of bs) = let t = text_length bs in omega arith in
     let all : text_of (bs ++ (last_byte bs ∷ [])) ++ (10 ∷ []) ≡ text_of bs ++ (byte_text r ++ (10 ∷ [])) =
-        ap (λ (t : List ℕ). t ++ (10 ∷ [])) (flat_map-append byte_text bs (last_byte bs ∷ []))
-        ∙ append_assoc (text_of bs) (byte_text (last_byte bs)) (10 ∷ [])
-        ∙ ap (λ (b : ℕ). text_of bs ++ (byte_text b ++ (10 ∷ []))) (sym er) in
+    ap (λ (t : List ℕ). t ++ (10 ∷ [])) (flat_map-append byte_text bs (last_byte bs ∷ []))
+    ∙ append_assoc (text_of bs) (byte_text (last_byte bs)) (10 ∷ [])
+    ∙ ap (λ (b : ℕ). text_of bs ++ (byte_text b ++ (10 ∷ []))) (sym er) in
     record {
       room = λ _. (
         omega arith,
         ap (λ (o : List ℕ). set o (p + 2) 10) e
-        ∙ sym (puts_append out p (byte_text r) (10 ∷ []))
-        ∙ ap (λ (o : List ℕ). puts o p (byte_text r ++ (10 ∷ []))) so
-        ∙ ap (λ (k : ℕ). puts (puts start at (text_of bs)) k (byte_text r ++ (10 ∷ []))) n
-        ∙ sym (puts_append start at (text_of bs) (byte_text r ++ (10 ∷ [])))
-        ∙ ap (puts start at) (sym all),
+            ∙ sym (puts_append out p (byte_text r) (10 ∷ []))
+            ∙ ap (λ (o : List ℕ). puts o p (byte_text r ++ (10 ∷ []))) so
+            ∙ ap (λ (k : ℕ). puts (puts start at (text_of bs)) k (byte_text r ++ (10 ∷ []))) n
+            ∙ sym (puts_append start at (text_of bs) (byte_text r ++ (10 ∷ [])))
+            ∙ ap (puts start at) (sym all),
       );
       full = λ k. absurd (omega arith);
     }

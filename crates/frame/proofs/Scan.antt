@@ -1,10 +1,10 @@
 -- Reading a text digit by digit: what the loops of decoding rest on.
-use Rattle.std.proofs.Common.{◌≡◌, ℕ, zero, suc, ◌+◌, ◌-◌, ◌*◌, ◌/◌, ◌%◌, ◌<◌, ◌≤◌, max, Some, None, Bool, true, false, ◌&&◌, cond, nat_lt, ltb, eqb, ◌⊎◌, List, [], ◌∷◌, length, get_or, take, sum, refl, sym, ◌∙◌, ap, inl, inr, arith, ltb-true, ltb-false, lt-ltb, le-ltb, eq-eqb, ne_eqb}
+use Rattle.std.proofs.Common.{◌≡◌, ℕ, zero, suc, ◌+◌, ◌*◌, ◌/◌, ◌%◌, ◌<◌, max, Some, None, Bool, true, false, ◌&&◌, cond, nat_lt, ltb, eqb, ◌⊎◌, List, [], ◌∷◌, length, get_or, take, sum, refl, sym, ◌∙◌, ap, inl, inr, arith, ltb-true, ltb-false, lt-ltb, eq-eqb, ne_eqb}
 use Rattle.std.specs.List.{list_all}
 use Rattle.std.specs.Option.{unwrap_or}
 use Rattle.std.proofs.lemmas.List.{ext_get_or}
 use Rattle.std.proofs.lemmas.List.Folds.{list_all_more, list_all_at}
-use Rattle.frame.specs.Hex.{is_digit, value_of, bytes_of, is_sound, worth, byte_at, WorthsRead, BytesLaid, Decoded}
+use Rattle.frame.specs.Hex.{is_digit, value_of, bytes_of, is_sound, worth, WorthsRead, BytesLaid, Decoded}
 
 pub either {ℓ} : {P : Type ℓ} (b : Bool) → (b ≡ true → P) → (b ≡ false → P) → P
 either true f g = f refl

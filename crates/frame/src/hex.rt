@@ -2,7 +2,9 @@
 ghost use Rattle.std.specs.Prelude.{◌≡◌, ℕ, ◌*◌, ◌<◌, ◌≤◌, ◌%◌, false, cond, length, slice_index, MatchOption, Some, None};
 ghost use Rattle.frame.specs.Hex.{is_digit, value_of, bytes_of, is_sound, WorthsRead, BytesLaid, Decoded};
 
-// The longest text, of a frame of 16 columns: 68 bytes, two digits each.
+// The longest frame has 16 columns: 68 bytes, two digits each.
+pub(crate) const ROOM: usize = 68;
+
 pub(crate) const LONGEST: usize = 136;
 
 // What stands for a byte that is no digit: it is worth more than each digit.
@@ -49,8 +51,8 @@ fn bytes_from(worths: &[u8], bytes: &mut [u8]) -> u8
 }
 
 // The bytes of a text of whole ones, in the lent room, if it is sound: capital digits, and a sum that is 0.
-pub(crate) fn decode<'a>(text: &[u8], room: &'a mut [u8; 68]) -> Option<&'a [u8]>
-    requires { (length text.now % 2 ≡ 0) × (length text.now ≤ 136) }
+pub(crate) fn decode<'a>(text: &[u8], room: &'a mut [u8; ROOM]) -> Option<&'a [u8]>
+    requires { (length text.now % 2 ≡ 0) × (length text.now ≤ LONGEST) }
     ensures { MatchOption result (is_sound text.now ≡ false) (λ bytes. Decoded text.now bytes.now) }
 {
     let mut worths = [0u8; LONGEST];

@@ -1,9 +1,9 @@
 // A line read as a frame.
-ghost use Rattle.std.specs.Prelude.{◌≡◌, ◌+◌, ◌*◌, ◌<◌, ◌≤◌, ◌%◌, ◌↔◌, ◌≢◌, length, IsTrue};
+ghost use Rattle.std.specs.Prelude.{◌≡◌, ◌+◌, ◌*◌, ◌<◌, ◌≤◌, ◌%◌, ◌↔◌, ◌≢◌, drop, length, take, IsTrue};
 ghost use Rattle.frame.specs.Frame.{one, two, four, fours, kind_of, text_frame, frame_of, said_of};
 ghost use Rattle.frame.specs.Puts.{puts, Carried, ReadIn};
 
-use crate::hex::{LONGEST, decode};
+use crate::hex::{LONGEST, ROOM, decode};
 
 // What a header orders: how many pairs on which line, at which separation (65,535: the least) and offset (the lowest i32: the best).
 #[derive(Clone, Copy, Debug, PartialEq, Eq)]
@@ -22,18 +22,26 @@ pub enum Said {
     Top(u8, usize),
 }
 
+// The N bytes from place i on.
+fn bytes_at<const N: usize>(bytes: &[u8], i: usize) -> [u8; N]
+    requires { i + N ≤ length bytes.now }
+    ensures { result ≡ take N (drop i bytes.now) }
+{
+    *bytes[i..].first_chunk().unwrap()
+}
+
 fn two_at(bytes: &[u8], i: usize) -> u16
     requires { i + 1 < length bytes.now }
     ensures { result ≡ two bytes.now i }
 {
-    u16::from_be_bytes([bytes[i], bytes[i + 1]])
+    u16::from_be_bytes(bytes_at(bytes, i))
 }
 
 fn four_at(bytes: &[u8], i: usize) -> i32
     requires { i + 3 < length bytes.now }
     ensures { result ≡ four bytes.now i }
 {
-    i32::from_be_bytes([bytes[i], bytes[i + 1], bytes[i + 2], bytes[i + 3]])
+    i32::from_be_bytes(bytes_at(bytes, i))
 }
 
 // What a sound text of a header's length says, from its bytes.
@@ -83,7 +91,7 @@ fn carrier(bytes: &[u8], columns: &mut [i32; 16]) -> Option<Said>
 
 // Whether a text of columns can be this long: 4 bytes, and 4 for each column, two digits a byte.
 fn is_carrier(n: usize) -> bool
-    ensures { IsTrue result ↔ ((n % 8 ≡ 0) × (16 ≤ n) × (n ≤ 136)) }
+    ensures { IsTrue result ↔ ((n % 8 ≡ 0) × (16 ≤ n) × (n ≤ LONGEST)) }
 {
     n % 8 == 0 && (16..=LONGEST).contains(&n)
 }
@@ -93,7 +101,7 @@ fn is_carrier(n: usize) -> bool
 pub fn read_text(text: &[u8], columns: &mut [i32; 16]) -> Option<Said>
     ensures { ReadIn (text_frame text.now) columns.old result columns.new }
 {
-    let mut room = [0u8; 68];
+    let mut room = [0u8; ROOM];
     if text.len() == 22 {
         header(decode(text, &mut room)?)
     } else if is_carrier(text.len()) {

@@ -73,7 +73,9 @@ pub fn put_answer(out: &mut [u8], at: usize, k: Answer) -> usize
     let [l3, l2, l1, l0] = k.lowest.to_be_bytes();
     let [h3, h2, h1, h0] = k.highest.to_be_bytes();
     let [p1, p0] = two(k.pair);
-    let bytes = [0x20, k.line, k.refusal, s1, s0, l3, l2, l1, l0, h3, h2, h1, h0, p1, p0, k.side];
+    let bytes = [
+        0x20, k.line, k.refusal, s1, s0, l3, l2, l1, l0, h3, h2, h1, h0, p1, p0, k.side,
+    ];
     put_line(out, at, &bytes)
 }
 

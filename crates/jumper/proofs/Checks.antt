@@ -43,9 +43,6 @@ of_offset d o = rw (lt_false d lowest_offset o.low, lt_false highest_offset d o.
 pub accepted_tracks : (a b : List ℤ) (s : ℕ) → check_tracks a b s ≡ (Ok tt) → AcceptedTracks a b s
 accepted_tracks a b s e = let f = both (check_rows a b) (tracks_fault s) e in record { rows = rows_of a b f.0; tracks = tracks_of s f.1 }
 
-pub accepted_shift : (a b : List ℤ) (d : ℤ) → check_offset a b d ≡ (Ok tt) → AcceptedShift a b d
-accepted_shift a b d e = let f = both (check_rows a b) (offset_fault d) e in record { rows = rows_of a b f.0; offset = offset_of d f.1 }
-
 pub accepted_asked : (a b : List ℤ) (s : ℕ) (d : ℤ) → check_asked a b s d ≡ (Ok tt) → Asked a b s d
 accepted_asked a b s d e =
     let f = both (check_tracks a b s) (offset_fault d) e in

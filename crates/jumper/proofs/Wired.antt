@@ -15,7 +15,7 @@ use Rattle.wiring.proofs.Serves.{rule_most, tracks_near}
 use Rattle.wiring.proofs.Theorem.{fit_exactly, first_track, every_offset}
 use Rattle.jumper.specs.Limits.{max_pairs, max_tracks, first_column, last_column, lowest_offset, highest_offset, AcceptedColumn, AcceptedOffset}
 use Rattle.jumper.specs.Rows.{AcceptedRow, AcceptedRows}
-use Rattle.jumper.specs.Asked.{AcceptedTracks, Asked}
+use Rattle.jumper.specs.Asked.{AcceptedTracks}
 
 -- the theorem of fit, of accepted rows
 pub wiring_exactly : {a b : List ℤ} → AcceptedRows a b → (s : ℕ) (d : ℤ) → HasWiring a b s d ↔ Fits (length a) (rule_at s) (lean_of a) (lean_of b) d
@@ -31,9 +31,6 @@ wired_every {a} {b} r s = every_offset (length a) s (pad a) (pad b) r.some r.bot
 -- what is asked at a separation is accepted where the rule is read
 pub tracks_rule : {a b : List ℤ} {s : ℕ} → AcceptedTracks a b s → AcceptedTracks a b (rule_at s)
 tracks_rule {s = s} k = record { rows = k.rows; tracks = omega (arith, k.tracks, rule_most s) }
-
-pub asked_rule : {a b : List ℤ} {s : ℕ} {d : ℤ} → Asked a b s d → Asked a b (rule_at s) d
-asked_rule {s = s} k = record { rows = k.rows; tracks = omega (arith, k.tracks, rule_most s); offset = k.offset }
 
 -- the separation that any accepted number of pairs serves is accepted, so the code gives it as it is
 pub tracks_most : (n : ℕ) → n ≤ max_pairs → tracks_for n ≤ max_tracks

@@ -92,11 +92,6 @@ pub fn carrying(refusal: u8, place: usize, second: usize, pair: usize, side: u8)
     }
 }
 
-// The numbers of Refusal::Wire, before which others come, and of Refusal::Line, for calls whose result is a refusal's number alone.
-pub const WIRE: u8 = 8;
-
-pub const LINE: u8 = 12;
-
 impl From<Refusal> for Numbers {
     ghost from_gives = { λ r n. n ≡ refusal_numbers r };
 

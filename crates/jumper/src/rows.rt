@@ -76,7 +76,6 @@ impl<'a> Row<'a> {
 }
 
 // Both rows: UNEQUAL, EMPTY, LONG, then the first fault of the bottom row, then of the top row.
-#[tactic(auto, using(crate::proofs::Accepted::row_check))]
 pub fn check_rows(a: &[i32], b: &[i32]) -> Result<(), Refusal>
     ensures { RowCheck a.now b.now result }
 {

@@ -20,7 +20,7 @@ use Rattle.jumper.specs.Rows.{AcceptedRows, checked_numbers, or_else}
 use Rattle.jumper.specs.Asked.{check_asked, Asked}
 use Rattle.jumper.specs.declared.asked.Question.{Question}
 use Rattle.jumper.specs.declared.refusal.Refusal.{Refusal}
-use Rattle.jumper.specs.declared.refusal.Refusal.TheVariants.{Wire as NoWire, Buffer, NoFit, BadWire}
+use Rattle.jumper.specs.declared.refusal.Refusal.TheVariants.{Buffer, NoFit, BadWire}
 use Rattle.jumper.specs.declared.refusal.Side.{Side}
 use Rattle.jumper.specs.Rows.{Checked}
 use Rattle.jumper.proofs.Accepted.{numbered, refused_not, accepted_of}
@@ -140,7 +140,7 @@ module _ (a b : List ℤ) (s : ℕ) (d : ℤ) where
       go (Ok u) m g h = refl
       go (Err q) m g h =
           let l = rw g at (early_asked a b s d) in
-          let x : Err (NoFit i k) ≡ Err q = rw (← e) h in
+          let x : ◌≡◌ {A = Checked} (Err (NoFit i k)) (Err q) = rw (← e) h in
           let n : 10 ≡ (refusal_numbers q).refusal = ap (λ (y : Checked). (checked_numbers y).refusal) x in
           absurd (omega arith)
 
@@ -171,36 +171,7 @@ module _ (a b : List ℤ) (s : ℕ) (d : ℤ) (wire : ℕ) (out : List ℤ) wher
       }
 
   module _ (e : check_asked a b s d ≡ Ok tt) where
-    pub wire_none : length a ≤ wire → DrawWireAnswer a b s d wire out out (Err NoWire)
-    wire_none h =
-        record {
-          answer = sym (rw (e, le-ltb wire (length a) h));
-          buffer = refl;
-          refused = λ z. refl;
-          draws = ((λ z. absurd (omega arith)), (λ z. absurd (omega (arith, z.1))));
-          places = λ z. absurd (omega arith);
-          means = λ z. absurd (omega arith);
-          legal = λ z. absurd (omega arith);
-          prevents = ((λ z. absurd (omega arith)), (λ z. absurd (omega (arith, z.1))));
-          witness = λ z. absurd (omega arith);
-        }
-
     module _ (lt : wire < length a) where
-      pub wire_short : length out ≤ s → DrawWireAnswer a b s d wire out out (Err Buffer)
-      wire_short h =
-          let g : length out < s + 1 = omega arith in
-          record {
-            answer = sym (rw (e, lt-ltb wire (length a) lt, lt-ltb (length out) (s + 1) g));
-            buffer = refl;
-            refused = λ z. refl;
-            draws = ((λ z. absurd (omega arith)), (λ z. absurd (omega (arith, z.2))));
-            places = λ z. absurd (omega arith);
-            means = λ z. absurd (omega arith);
-            legal = λ z. absurd (omega arith);
-            prevents = ((λ z. absurd (omega arith)), (λ z. absurd (omega (arith, z.2))));
-            witness = λ z. absurd (omega arith);
-          }
-
       module _ (room : s < length out) where
         pub wire_misfit : (r : Refusal) → FitAnswer a b s d (Err r) → DrawWireAnswer a b s d wire out out (Err r)
         wire_misfit r f =

@@ -21,8 +21,9 @@ use Rattle.jumper.proofs.Accepted.{refused_not}
 use Rattle.jumper.specs.declared.refusal.Refusal.{Refusal}
 use Rattle.jumper.specs.declared.refusal.Refusal.TheVariants.{BadWire}
 use Rattle.jumper.specs.Rows.{Checked}
+use Rattle.route.specs.Asked.{ends_wrong, FirstWire}
 use Rattle.route.specs.Check.{rightmost, leftmost, WrongStart, WrongEnd, StepsAside, Touching, Fault, NoFault, FirstFault}
-use Rattle.route.specs.Check.{FirstWire, ends_wrong, start_wrong, end_wrong, steps_aside, run_touches, fault_at, wire_fault, track_fault}
+use Rattle.route.specs.Check.{start_wrong, end_wrong, steps_aside, run_touches, fault_at, wire_fault, track_fault}
 
 -- WHAT A TEST TELLS
 pub record Tells (t : Bool) (P : Type 0) : Type 0 where
@@ -89,22 +90,6 @@ fault_tells n s a c e t i =
 
 -- THE TESTS AS THE CODE MEETS THEM
 module _ (n s : ℕ) (a c : ℕ → ℤ) (e : ℕ → ℕ → ℤ) (t i : ℕ) where
-  pub start_here : t ≡ 0 → start_wrong a e t i ≡ differ (e i 0) (a i)
-  unfolding start_wrong
-  start_here h = rw (eq-eqb t 0 h)
-
-  pub start_off : t ≢ 0 → start_wrong a e t i ≡ false
-  unfolding start_wrong
-  start_off h = rw (ne_eqb t 0 h)
-
-  pub end_here : t ≡ s → end_wrong s c e t i ≡ differ (e i s) (c i)
-  unfolding end_wrong
-  end_here h = rw (eq-eqb t s h)
-
-  pub end_off : t ≢ s → end_wrong s c e t i ≡ false
-  unfolding end_wrong
-  end_off h = rw (ne_eqb t s h)
-
   pub aside_here : t ≡ 0 → 0 < s → steps_aside s e t i ≡ differ (e i 1) (e i 0)
   unfolding steps_aside
   aside_here h l = rw (eq-eqb t 0 h, lt-ltb 0 s l)
@@ -133,36 +118,7 @@ module _ (n s : ℕ) (a c : ℕ → ℤ) (e : ℕ → ℕ → ℤ) (t i : ℕ) w
   unfolding run_touches
   touches_top h = rw (le-ltb t s h)
 
-  pub fault_start : start_wrong a e t i ≡ true → fault_at n s a c e t i ≡ true
-  unfolding fault_at
-  fault_start h = rw h
-
-  pub fault_end : start_wrong a e t i ≡ false → end_wrong s c e t i ≡ true → fault_at n s a c e t i ≡ true
-  unfolding fault_at
-  fault_end h k = rw (h, k)
-
-  pub fault_aside : start_wrong a e t i ≡ false → end_wrong s c e t i ≡ false → steps_aside s e t i ≡ true → fault_at n s a c e t i ≡ true
-  unfolding fault_at
-  fault_aside h k l = rw (h, k, l)
-
-  pub fault_run : start_wrong a e t i ≡ false → end_wrong s c e t i ≡ false → steps_aside s e t i ≡ false → fault_at n s a c e t i ≡ run_touches n s e t i
-  unfolding fault_at
-  fault_run h k l = rw (h, k, l)
-
 -- THE SEARCH, a step at a time
-module _ (wrong : ℕ → Bool) (t n i : ℕ) where
-  pub wire_found : i < n → wrong i ≡ true → wire_fault wrong t i (n - i) ≡ Err (BadWire i t)
-  unfolding wire_fault
-  wire_found h k = let e : n - i ≡ suc (n - (i + 1)) = omega arith in rw (e, k)
-
-  pub wire_next : i < n → wrong i ≡ false → wire_fault wrong t i (n - i) ≡ wire_fault wrong t (i + 1) (n - (i + 1))
-  unfolding wire_fault
-  wire_next h k = let e : n - i ≡ suc (n - (i + 1)) = omega arith in rw (e, k, add-one)
-
-  pub wire_done : n ≤ i → wire_fault wrong t i (n - i) ≡ Ok tt
-  unfolding wire_fault
-  wire_done h = let e : n - i ≡ 0 = omega arith in rw e
-
 module _ (wrong : ℕ → ℕ → Bool) (n m t : ℕ) where
   pub track_found : (r : Refusal) → t < m → wire_fault (wrong t) t 0 n ≡ Err r → track_fault wrong n t (m - t) ≡ Err r
   unfolding track_fault

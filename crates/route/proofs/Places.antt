@@ -8,8 +8,8 @@ use native.Mathlib.Nat.{suc-mul, mul-le-mul_right, eq-or-lt_of_le, add-suc, add-
 use native.Mathlib.Numerals.{add-one}
 use native.Mathlib.Omega.{arith}
 use Rattle.std.proofs.lemmas.List.{take_more, take-append-drop}
-use lib.ListN.{length, get_or, take, drop, set, length-append, length-drop, drop_of_length-le}
-use lib.Seq.{drop-cons, drop-drop, take_all, take_at, drop_at, set_at, get_or-append-add}
+use lib.ListN.{length, get_or, take, drop, length-append, length-drop, drop_of_length-le}
+use lib.Seq.{drop-drop, take_all, take_at, drop_at, get_or-append-add}
 use lib.IntN.{ℤ, pos}
 use Rattle.route.specs.Table.{column_in, columns, wires}
 
@@ -90,12 +90,6 @@ wires_part e s (suc n) i rest h =
         (take_at (columns (e n) (s + 1)) rest (s + 1) (columns_length (e n) (s + 1)))
 
 -- A BUFFER AS THE LOOPS LEAVE IT. The first t columns stand in what was out₀
-pub begun_next : (e : ℕ → ℤ) (out₀ out : List ℤ) (t : ℕ) (x : ℤ) → t < length out₀ → x ≡ e t
-    → out ≡ columns e t ++ drop t out₀ → set out t x ≡ columns e (t + 1) ++ drop (t + 1) out₀
-unfolding columns
-begun_next e out₀ out t x h g l =
-    rw (l, drop-cons out₀ t (pos 0) h, set_at (columns e t) (get_or out₀ t (pos 0)) (drop (suc t) out₀) x t (columns_length e t), add-one t, append_assoc, g)
-
 -- a buffer after its part from `at` on was lent, and came back as ys
 abbrev pub put : ℕ → List ℤ → List ℤ → List ℤ
 put at out ys = take at out ++ (ys ++ drop (length out - at) (drop at out))
@@ -108,9 +102,6 @@ module _ (p : List ℤ) (at : ℕ) (out₀ out : List ℤ) (here : length p ≡ 
   lent : take (length out - at) (drop at out) ≡ drop at out₀
   lent = rw (put_same, was, drop_at p (drop at out₀) at here) (take_all (length out₀ - at) (drop at out₀) (omega (arith, length-drop at out₀)))
 
-  pub lent_length : length (take (length out - at) (drop at out)) ≡ length out₀ - at
-  lent_length = rw lent (length-drop at out₀)
-
   pub put_next : (q : List ℤ) (k : ℕ) (ys : List ℤ) → ys ≡ q ++ drop k (take (length out - at) (drop at out)) → put at out ys ≡ (p ++ q) ++ drop (at + k) out₀
   put_next q k ys e =
       let f : take at out ≡ p = rw was (take_at p (drop at out₀) at here) in
@@ -120,16 +111,6 @@ module _ (p : List ℤ) (at : ℕ) (out₀ out : List ℤ) (here : length p ≡ 
       rw (z, e, lent, f, append-nil, drop-drop k at out₀, append_assoc)
 
 -- a wire of which m columns were drawn, and the rest, up to k, on column c
-pub straight_on : (e : ℕ → ℤ) (c : ℤ) (m k : ℕ) (out₀ out ys : List ℤ) → m ≤ k → k ≤ length out₀
-    → ((t : ℕ) → m ≤ t → t < k → e t ≡ c) → out ≡ columns e m ++ drop m out₀
-    → ys ≡ columns (λ t. c) (k - m) ++ drop (k - m) (take (length out - m) (drop m out)) → put m out ys ≡ columns e k ++ drop k out₀
-straight_on e c m k out₀ out ys le room free was g =
-    let w : m + (k - m) ≡ k = omega arith in
-    let rest : (t : ℕ) → t < k - m → e (m + t) ≡ c = λ t h. free (m + t) (omega arith) (omega arith) in
-    let f : columns (λ t. e (m + t)) (k - m) ≡ columns (λ t. c) (k - m) = columns_same (λ t. e (m + t)) (λ t. c) (k - m) rest in
-    let h : columns e k ≡ columns e m ++ columns (λ t. c) (k - m) = ap (columns e) (sym w) ∙ columns_more e m (k - m) ∙ rw f in
-    put_next (columns e m) m out₀ out (columns_length e m) (omega arith) was (columns (λ t. c) (k - m)) (k - m) ys g ∙ rw (w, h)
-
 pub none_drawn : (e : ℕ → ℕ → ℤ) (s : ℕ) (out : List ℤ) → out ≡ wires e s 0 ++ drop (0 * (s + 1)) out
 unfolding wires
 none_drawn e s out = let z : 0 * (s + 1) ≡ 0 = omega arith in rw z

@@ -22,7 +22,9 @@ use Rattle.whole.proofs.Arith.{arithℤ, ≤_or_<}
 use Rattle.whole.proofs.Order.{untrue, true_lt, false_lt, larger_law, smaller_law}
 use Rattle.wiring.specs.Wiring.{pad}
 use Rattle.route.specs.Table.{column_in}
-use Rattle.route.specs.Check.{rightmost, leftmost, WireClear, NoFault, RunsApart, ends_wrong}
+use Rattle.route.specs.Asked.{ends_wrong, Clear}
+use Rattle.route.specs.declared.checking.Table.{Table}
+use Rattle.route.specs.Check.{rightmost, leftmost, WireClear, NoFault, RunsApart}
 use Rattle.route.proofs.Faults.{ends_tell}
 
 -- what one comparison adds
@@ -65,9 +67,6 @@ four p p' q q' k e =
     )
 
 -- one track more
-pub runs_none : (p q : ℕ → ℤ) → RunsApart p q 0
-runs_none p q t h = absurd (omega arith)
-
 pub runs_more : (p q : ℕ → ℤ) (t m k : ℕ) → (m ≡ 0) ↔ RunsApart p q t
     → (k ≡ 0) ↔ (larger_of (p t) (p (t + 1)) <ℤ smaller_of (q t) (q (t + 1))) → (m + k ≡ 0) ↔ RunsApart p q (t + 1)
 runs_more p q t m k f g = (
@@ -84,9 +83,10 @@ unfolding column_in
 row_from table s i at k t e h = get_or-take k (drop at table) t (pos 0) h ∙ get_or-drop at table t (pos 0) ∙ rw e
 
 pub runs_same : (p p' q q' : ℕ → ℤ) (s : ℕ) → ((t : ℕ) → t ≤ s → p t ≡ p' t) → ((t : ℕ) → t ≤ s → q t ≡ q' t) → RunsApart p q s ↔ RunsApart p' q' s
-runs_same p p' q q' s f g =
-    (λ r t h. rw (← f t (omega arith), ← f (suc t) (omega arith), ← g t (omega arith), ← g (suc t) (omega arith)) (r t h),
-    λ r t h. rw (f t (omega arith), f (suc t) (omega arith), g t (omega arith), g (suc t) (omega arith)) (r t h))
+runs_same p p' q q' s f g = (
+  λ r t h. rw (← f t (omega arith), ← f (suc t) (omega arith), ← g t (omega arith), ← g (suc t) (omega arith)) (r t h),
+  λ r t h. rw (f t (omega arith), f (suc t) (omega arith), g t (omega arith), g (suc t) (omega arith)) (r t h),
+)
 
 -- A WIRE IS CLEAR when it starts and ends right, goes straight up from its pad, and its runs are to the left of the next wire's
 module _ (n s : ℕ) (a c : ℕ → ℤ) (e : ℕ → ℕ → ℤ) (i : ℕ) where
@@ -121,11 +121,15 @@ module _ (n s : ℕ) (a c : ℕ → ℤ) (e : ℕ → ℕ → ℤ) (i : ℕ) whe
         let same = runs_same p (e i) q (e (suc i)) s here there in
         ((λ z. clear_of ((go _ tells).0 f) (λ h. same.0 (r.0 (eqb-true k 0 z)))), (λ w. eq-eqb k 0 (r.1 (same.1 (clear_runs l w)))))
 
-    pub clear_last : (last : Bool) → right ≡ true → last ≡ true → n ≤ suc i → (last ≡ true) ↔ WireClear n s a c e i
-    clear_last last f g l = ((λ z. clear_of ((go _ tells).0 f) (λ h. absurd (omega arith))), (λ w. g))
+    pub clear_last : right ≡ true → n ≤ suc i → (true ≡ true) ↔ WireClear n s a c e i
+    clear_last f l = ((λ z. clear_of ((go _ tells).0 f) (λ h. absurd (omega arith))), (λ w. refl))
 
-    pub unclear : right ≡ false → (right ≡ true) ↔ WireClear n s a c e i
-    unclear f = ((λ z. untrue (sym f ∙ z)), (λ w. absurd (ends_unclear ((go _ tells).1 f) w)))
+    pub unclear : right ≡ false → (false ≡ true) ↔ WireClear n s a c e i
+    unclear f = ((λ z. untrue z), (λ w. absurd (ends_unclear ((go _ tells).1 f) w)))
+
+-- what is found of a wire of a table is so of the table's wire
+pub same_clear : (t t' : Table) (i i' : ℕ) (r : Bool) → (t' ≡ t) × (i' ≡ i) → (r ≡ true) ↔ Clear t'.asked t'.columns.now i' → (r ≡ true) ↔ Clear t.asked t.columns.now i
+same_clear t t' i i' r same told = rw (← same.0, ← same.1) told
 
 -- all wires, as `all` asks them
 module _ (n s : ℕ) (a c : ℕ → ℤ) (e : ℕ → ℕ → ℤ) where
@@ -133,7 +137,7 @@ module _ (n s : ℕ) (a c : ℕ → ℤ) (e : ℕ → ℕ → ℤ) where
   asked i l = get_or-range_with_len 0 n i 0 l ∙ omega arith
 
   pub all_clear : (r : Bool) → MatchBool r (AllWithin (WireClear n s a c e) (range_with_len 0 n) 0 (length (range_with_len 0 n)))
-          ((k : ℕ) × (k < length (range_with_len 0 n)) × HoldsAt (λ i. WireClear n s a c e i → ⊥) (range_with_len 0 n) k)
+      ((k : ℕ) × (k < length (range_with_len 0 n)) × HoldsAt (λ i. WireClear n s a c e i → ⊥) (range_with_len 0 n) k)
       → (r ≡ true) ↔ NoFault n s a c e
   all_clear true h = ((λ z i l. subst (WireClear n s a c e) (asked i l) (h i 0 (omega arith) (omega (arith, length-range_with_len 0 n)))), (λ f. refl))
   all_clear false h =

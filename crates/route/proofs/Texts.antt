@@ -1,4 +1,4 @@
-use Rattle.std.specs.Prelude.{Ok, Err}
+use Rattle.std.specs.Prelude.{Ok}
 -- The frames 21: a wire that has come to its top pad's column, and what writing them leaves to write.
 use mathlib.Core.Path.{◌≡◌, refl, sym, ap, ◌∙◌}
 use mathlib.Core.Bool.{Bool, true, false, cond, true≢false}
@@ -13,7 +13,7 @@ use lib.Signed.{◌≤ℤ◌, lt_z}
 use mir.Syntax.{w32}
 use mir.Val.{SFits, of_z, to_z}
 use Rattle.std.proofs.lemmas.Int.{to_z-of_z}
-use borrow.Author.Tests.{lt-ltb, le-ltb, ltb-true, ltb-false, leb-true, leb-false, eq-eqb, ne_eqb}
+use borrow.Author.Tests.{lt-ltb, le-ltb, ltb-true, ltb-false, leb-true, leb-false, eq-eqb}
 use Rattle.whole.specs.Pick.{differ}
 use Rattle.whole.proofs.Arith.{arithℤ, sum, dif}
 use Rattle.whole.proofs.Order.{false_lt, lt_false}
@@ -24,12 +24,9 @@ use Rattle.wiring.specs.Drawing.{entry, column_at, drawn}
 use Rattle.wiring.proofs.Rule.{spread}
 use Rattle.wiring.proofs.Serves.{rule_up}
 use Rattle.wiring.proofs.Drawing.{entry_clamped, column_second}
-use Rattle.jumper.specs.Refusals.{refusal_numbers}
-use Rattle.jumper.specs.Rows.{checked_numbers}
 use Rattle.jumper.specs.Asked.{check_asked, Asked}
-use Rattle.jumper.specs.declared.refusal.Numbers.{Numbers}
-use Rattle.jumper.specs.declared.refusal.Refusal.{Refusal}
-use Rattle.jumper.proofs.Accepted.{number_of, numbered}
+use Rattle.jumper.specs.declared.asked.Question.{Question}
+use Rattle.jumper.proofs.Accepted.{number_of}
 use Rattle.jumper.proofs.Checks.{asked_accepted}
 use Rattle.frame.specs.Written.{move_line}
 use Rattle.frame.specs.Puts.{LinePut}
@@ -203,18 +200,13 @@ wire_step l s e i W out out' t p q x y h ex ey w g =
     let m : move_text (record { line = l; wire = i; track = t; from = x; to = y }) ≡ track_text l e i t = simp (ex, ey) in
     w ∙ wire_more l s e i out out' t p q h (g ∙ ap (λ (z : List ℕ). take p out ++ z) m)
 
--- ---- rows that are accepted, and rows that are not
-module _ (l s : ℕ) (d : ℤ) (a b : List ℤ) (i t : ℕ) (out : List ℕ) (from : ℕ) where
-  pub asked_route : (i' t' to : ℕ) (out' last : List ℕ) → check_asked a b s d ≡ Ok tt → last ≡ out' → RouteOut l s d a b i t out from i' t' to out' → MovesOut l s d a b i t out from i' t' to last
-  asked_route i' t' to out' last z e r =
-      let y : is_asked a b s d ≡ true = eq-eqb _ _ (number_of (check_asked a b s d) z) in
-      rw e (record { gave = simp y r.gave; fits = r.fits; far = r.far })
-
-  pub unasked_route : (f : Refusal) → check_asked a b s d ≡ Err f → MovesOut l s d a b i t out from (length a) 0 from out
-  unasked_route f z =
-      let w : checked_numbers (check_asked a b s d) ≡ refusal_numbers f = ap checked_numbers z in
-      let y : is_asked a b s d ≡ false = ne_eqb _ _ (λ h. numbered f (ap (λ (k : Numbers). k.refusal) (sym w) ∙ h)) in
-      record { gave = simp y; fits = (λ h. h); far = λ h. absurd (omega arith) }
+-- ---- rows that are accepted
+pub asked_route : (l : ℕ) (q : Question) {s : ℕ} {d : ℤ} {a b : List ℤ} → (q.rows.bottom.now ≡ a) × (q.rows.top.now ≡ b) × (q.separation ≡ s) × (q.offset ≡ d)
+    → (i t : ℕ) (out : List ℕ) (from i' t' to : ℕ) (out' last : List ℕ) → check_asked a b s d ≡ Ok tt → last ≡ out' → RouteOut l q i t out from i' t' to out'
+    → MovesOut l s d a b i t out from i' t' to last
+asked_route l q {s} {d} {a} {b} e i t out from i' t' to out' last z same r =
+    let y : is_asked a b s d ≡ true = eq-eqb _ _ (number_of (check_asked a b s d) z) in
+    rw same (record { gave = simp y (rw (e.0, e.1, e.2, e.3) at r.gave); fits = r.fits; far = rw e.0 at r.far })
 
 -- ---- the whole route, and none
 

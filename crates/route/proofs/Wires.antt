@@ -17,7 +17,7 @@ use Rattle.std.specs.Int.{int_min, int_max}
 use Rattle.std.proofs.lemmas.Int.{ints, clamps, to_z-of_z}
 use Rattle.whole.specs.Pick.{larger_of, smaller_of}
 use Rattle.whole.proofs.Arith.{arithℤ, sum, dif}
-use Rattle.whole.proofs.Order.{true_lt, false_lt, larger_is, smaller_is}
+use Rattle.whole.proofs.Order.{true_lt, false_lt, larger_is}
 use Rattle.wiring.specs.Wiring.{pad, top_pad}
 use Rattle.wiring.specs.Drawing.{rightward, leftward, entry}
 use Rattle.wiring.proofs.Drawing.{column_first, column_next}
@@ -73,11 +73,7 @@ module _ (n : ℕ) (a : ℕ → ℤ) (c : ℤ) (i : ℕ) where
     right_drawn lt h f g t l =
         ⊎_elim (λ m. f t m l ∙ sym (to_right lt h t)) (λ m. g t m l ∙ sym (to_right lt h t ∙ rightward_free n a c i t (omega arith))) (cases_lt t (n - i))
 
-pub ruleset extremes = (to_z-of_z, smaller_is, larger_is, add-one)
-
 -- what the code of a wire's columns needs
-pub ruleset held = (to_z-of_z, leftward_held, leftward_free, rightward_held, rightward_free)
-
 pub ruleset ways = (to_z-of_z, leftward_free, rightward_free, to_left, to_right)
 
 -- WIRE i IN A BUFFER: 01's first s columns after the first place, and pad i's column in the first place

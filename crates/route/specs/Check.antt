@@ -5,7 +5,7 @@
 --
 -- Worked: rows 0,1 and 1,2 at offset 0 and separation 3. The table 0,0,0,1 / 1,1,2,2 is legal. In 0,0,0,1 / 1,2,2,2 wire 1 steps aside on track 0, where nobody
 -- is in its way: the fault is wire 1's. In 0,0,0,1 / 1,0,2,2 it steps to column 0, so wire 0's run isn't below it: the first fault is wire 0's, on track 0.
-use Rattle.std.specs.Prelude.{Ok, Err, Option, MatchOption, Bool, true, false, cond, ◌≡◌, List, ◌⊎◌, ◌≢◌, ◌↔◌, ℕ, zero, suc, ◌+◌, ◌*◌, ◌≤◌, ◌<◌, eqb, ltb, length, take, ℤ, ◌≤ℤ◌, ◌<ℤ◌}
+use Rattle.std.specs.Prelude.{Ok, Err, Bool, true, false, cond, ◌≡◌, List, ◌⊎◌, ◌≢◌, ◌↔◌, ℕ, zero, suc, ◌+◌, ◌*◌, ◌≤◌, ◌<◌, eqb, ltb, length, take, ℤ, ◌≤ℤ◌, ◌<ℤ◌}
 use Rattle.std.specs.Int.Signed.{le_z}
 use Rattle.whole.specs.Pick.{differ, larger_of, smaller_of}
 use Rattle.wiring.specs.Wiring.{pad, top_pad}
@@ -83,14 +83,6 @@ fault_at n s a c e t i = cond (start_wrong a e t i) true (cond (end_wrong s c e 
 unfoldable pub wire_fault : (wrong : ℕ → Bool) (t i k : ℕ) → Checked
 wire_fault wrong t i zero = Ok tt
 wire_fault wrong t i (suc k) = pick (wrong i) (Err (BadWire i t)) (wire_fault wrong t (suc i) k)
-
--- wire i starts or ends wrong, or steps aside
-abbrev pub ends_wrong : (s : ℕ) (a c : ℕ → ℤ) (e : ℕ → ℕ → ℤ) (i : ℕ) → Bool
-ends_wrong s a c e i = cond (start_wrong a e 0 i) true (cond (end_wrong s c e s i) true (steps_aside s e 0 i))
-
--- `found` is the first of n wires with a fault on track t
-abbrev pub FirstWire : (wrong : ℕ → Bool) (t n : ℕ) (found : Option ℕ) → Type 0
-FirstWire wrong t n found = MatchOption found (wire_fault wrong t 0 n ≡ Ok tt) (λ i. wire_fault wrong t 0 n ≡ Err (BadWire i t))
 
 unfoldable pub track_fault : (wrong : ℕ → ℕ → Bool) (n t k : ℕ) → Checked
 track_fault wrong n t zero = Ok tt

@@ -8,7 +8,7 @@ use Rattle.jumper.specs.Rows.{checked_numbers, pick, unless_refused, or_else}
 use Rattle.jumper.specs.Asked.{check_asked, Asked}
 use Rattle.jumper.specs.declared.refusal.Refusal.TheVariants.{Wire}
 use Rattle.jumper.specs.Rows.{Checked}
-use Rattle.fit.specs.Misfit.{misfit_of, no_fit, Witness, FitAnswer}
+use Rattle.fit.specs.Misfit.{misfit_of, no_fit, Witness}
 use Rattle.route.specs.Table.{column_in, columns, wires, no_room, LegalRoute}
 
 -- the columns that we give wire i, and the wires that they mean
@@ -63,12 +63,3 @@ pub record DrawAllAnswer (a b : List ℤ) (s : ℕ) (d : ℤ) (out out' : List �
   pub legal : (checked_numbers r).refusal ≡ 0 → LegalRoute a b s d out'
   pub prevents : ((checked_numbers r).refusal ≡ 10) ↔ (Asked a b s d × (length a * (s + 1) ≤ length out) × (HasWiring a b s d → ⊥))
   pub witness : (checked_numbers r).refusal ≡ 10 → Witness a b s d (checked_numbers r).pair (checked_numbers r).side
-
--- What the code asks first: of what is accepted, the same rows, separation and offset, and what `fit` says of them. Only the code needs this
-pub record FitAsked (a b : List ℤ) (s : ℕ) (d : ℤ) (a' b' : List ℤ) (s' : ℕ) (d' : ℤ) (r : Checked) : Type 0 where
-  pub bottom : a' ≡ a
-  pub top : b' ≡ b
-  pub separation : s' ≡ s
-  pub offset : d' ≡ d
-  pub accepted : check_asked a b s d ≡ Ok tt
-  pub fits : FitAnswer a b s d r

@@ -6,6 +6,8 @@ use Rattle.wiring.specs.Wiring.{pad, top_pad}
 use Rattle.wiring.specs.Drawing.{drawn}
 use Rattle.jumper.specs.Rows.{checked_numbers}
 use Rattle.jumper.specs.Asked.{check_asked}
+use Rattle.jumper.specs.declared.asked.Question.{Question}
+use Rattle.route.specs.Asked.{pairs, bottom, top}
 use Rattle.frame.specs.Written.{move_line}
 use Rattle.frame.specs.declared.write.Move.{Move}
 
@@ -49,22 +51,30 @@ pub record MovesOut (l s : ℕ) (d : ℤ) (a b : List ℤ) (i t : ℕ) (out : Li
   pub fits : from ≤ length out → to ≤ length out
   pub far : i' < length a → length out < to + 31
 
--- What its parts promise each other; no reader needs to believe these. The frames of accepted rows, of one wire, and of one track
-pub record RouteOut (l s : ℕ) (d : ℤ) (a b : List ℤ) (i t : ℕ) (out : List ℕ) (from : ℕ) (i' t' to : ℕ) (out' : List ℕ) : Type 0 where
-  pub gave : take from out ++ route_left l s d a b i t ≡ take to out' ++ route_left l s d a b i' t'
+-- What is asked, from a wire and its track on: its frames, those of one wire, and the rest of those where it stopped
+abbrev pub frames : (l : ℕ) (q : Question) (i t : ℕ) → List ℕ
+frames l q i t = route_left l q.separation q.offset q.rows.bottom.now q.rows.top.now i t
+
+abbrev pub wire_frames : (l : ℕ) (q : Question) (i t : ℕ) → List ℕ
+wire_frames l q i t = wire_text l (drawn (pairs q) (bottom q) (top q)) i t (q.separation - t)
+
+abbrev pub frames_left : (l : ℕ) (q : Question) (i : ℕ) → Option ℕ → List ℕ
+frames_left l q i None = []
+frames_left l q i (Some t) = wire_frames l q i t
+
+-- What its parts promise each other; no reader needs to believe these. The frames of what is asked
+pub record RouteOut (l : ℕ) (q : Question) (i t : ℕ) (out : List ℕ) (from : ℕ) (i' t' to : ℕ) (out' : List ℕ) : Type 0 where
+  pub gave : take from out ++ frames l q i t ≡ take to out' ++ frames l q i' t'
   pub fits : from ≤ length out → to ≤ length out
-  pub far : i' < length a → length out < to + 31
+  pub far : i' < pairs q → length out < to + 31
 
--- the rest of a wire that stopped at a track, or of one that didn't stop
-abbrev pub wire_left : (l s : ℕ) (e : ℕ → ℕ → ℤ) (i : ℕ) → Option ℕ → List ℕ
-wire_left l s e i None = []
-wire_left l s e i (Some t) = wire_text l e i t (s - t)
-
-pub record WireOut (l s : ℕ) (d : ℤ) (a b : List ℤ) (i t : ℕ) (out : List ℕ) (from : ℕ) (stopped : Option ℕ) (to : ℕ) (out' : List ℕ) : Type 0 where
-  pub gave : take from out ++ wire_text l (drawn (length a) (pad a) (top_pad b d)) i t (s - t) ≡ take to out' ++ wire_left l s (drawn (length a) (pad a) (top_pad b d)) i stopped
+-- of one wire of it, which stopped at a track or didn't
+pub record WireOut (l : ℕ) (q : Question) (i t : ℕ) (out : List ℕ) (from : ℕ) (stopped : Option ℕ) (to : ℕ) (out' : List ℕ) : Type 0 where
+  pub gave : take from out ++ wire_frames l q i t ≡ take to out' ++ frames_left l q i stopped
   pub fits : from ≤ length out → to ≤ length out
   pub far : (stopped ≡ None → ⊥) → length out < to + 31
 
+-- and of one track
 pub record TrackOut (text out : List ℕ) (from : ℕ) (done : Bool) (to : ℕ) (out' : List ℕ) : Type 0 where
   pub wrote : done ≡ true → take to out' ≡ take from out ++ text
   pub fits : from ≤ length out → to ≤ length out

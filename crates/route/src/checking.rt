@@ -1,11 +1,11 @@
 // Checking any table of columns: whether the wires that it means are a legal wiring, and if not, the first fault by track, then wire.
-ghost use Rattle.std.specs.Prelude.{◌≡◌, not, true, cond, ◌↔◌, suc, ◌+◌, ◌*◌, ◌≤◌, ◌<◌, length, ◌<ℤ◌, Ok, Err, MatchOption, ℕ, false};
+ghost use Rattle.std.specs.Prelude.{◌≡◌, true, not, cond, ◌↔◌, ◌+◌, ◌*◌, ◌≤◌, ◌<◌, ℕ, length, ◌<ℤ◌, MatchOption};
 ghost use Rattle.std.specs.Int.Signed.{lt_z};
 ghost use Rattle.whole.specs.Pick.{larger_of, smaller_of};
-ghost use Rattle.wiring.specs.Wiring.{pad, top_pad};
+ghost use Rattle.wiring.specs.Wiring.{pad};
 ghost use Rattle.jumper.specs.Limits.{max_tracks};
-ghost use Rattle.route.specs.Table.{column_in};
-ghost use Rattle.route.specs.Check.{ends_wrong, leftmost, rightmost, WireClear, NoFault, RunsApart, start_wrong, end_wrong, steps_aside, run_touches, fault_of, first_fault, FirstWire, RouteCheck};
+ghost use Rattle.route.specs.Check.{rightmost, leftmost, RunsApart, start_wrong, end_wrong, steps_aside, run_touches, first_fault, RouteCheck};
+ghost use Rattle.route.specs.Asked.{pairs, bottom, top, entered, faults, ends_wrong, FirstWire, Clear, Faultless};
 
 use crate::column::top_pad;
 use crate::drawing::places;
@@ -20,8 +20,11 @@ pub fn check_route(a: &[i32], b: &[i32], s: usize, d: i32, table: &[i32]) -> Res
     if table.len() < places(a.len(), s) {
         return Err(Refusal::Buffer);
     }
-    let table = Table { asked, columns: table };
-    if table.no_fault() {
+    let table = Table {
+        asked,
+        columns: table,
+    };
+    if table.is_faultless() {
         return Ok(());
     }
     table.first_fault()
@@ -35,79 +38,27 @@ struct Table<'a> {
     ghost room: { length asked.rows.bottom.now * (asked.separation + 1) ≤ length columns.now },
 }
 
-impl Table<'_> {
-    // The column on which wire i enters track t.
-    #[tactic(auto, using(crate::proofs::Places::place_in), unfolding(crate::specs::Table::column_in))]
-    fn column(self, i: usize, t: usize) -> i32
-        requires { (i < length self.asked.rows.bottom.now) × (t ≤ self.asked.separation) }
-        ensures { result ≡ column_in self.entry.columns.now self.entry.asked.separation i t }
+impl<'a> Table<'a> {
+    fn wire(self, i: usize) -> TableWire<'a>
+        requires { i < pairs self.asked }
+        ensures { (result.table ≡ self.entry) × (result.wire ≡ i) }
     {
-        self.columns[places(i, self.asked.separation) + t]
-    }
-
-    // The leftmost and the rightmost column of wire i's run on track t.
-    #[tactic(auto, using(crate::proofs::Wires::extremes))]
-    fn run(self, i: usize, t: usize) -> (i32, i32)
-        requires { (i < length self.asked.rows.bottom.now) × (t < self.asked.separation) }
-        ensures { (result.0 ≡ leftmost (column_in self.entry.columns.now self.entry.asked.separation) i t) × (result.1 ≡ rightmost (column_in self.entry.columns.now self.entry.asked.separation) i t) }
-    {
-        let (enters, leaves) = (self.column(i, t), self.column(i, t + 1));
-        (enters.min(leaves), enters.max(leaves))
-    }
-
-    #[tactic(auto, unfolding(crate::specs::Check::start_wrong))]
-    fn start_wrong(self, t: usize, i: usize) -> bool
-        requires { i < length self.asked.rows.bottom.now }
-        ensures { result ≡ start_wrong (pad self.entry.asked.rows.bottom.now) (column_in self.entry.columns.now self.entry.asked.separation) t i }
-    {
-        t == 0 && self.column(i, 0) != self.asked.rows.bottom[i]
-    }
-
-    #[tactic(auto, unfolding(crate::specs::Check::end_wrong))]
-    fn end_wrong(self, t: usize, i: usize) -> bool
-        requires { i < length self.asked.rows.bottom.now }
-        ensures { result ≡ end_wrong self.entry.asked.separation (top_pad self.entry.asked.rows.top.now self.entry.asked.offset) (column_in self.entry.columns.now self.entry.asked.separation) t i }
-    {
-        t == self.asked.separation && self.column(i, t) != top_pad(self.asked, i)
-    }
-
-    #[tactic(auto, unfolding(crate::specs::Check::steps_aside))]
-    fn steps_aside(self, t: usize, i: usize) -> bool
-        requires { i < length self.asked.rows.bottom.now }
-        ensures { result ≡ steps_aside self.entry.asked.separation (column_in self.entry.columns.now self.entry.asked.separation) t i }
-    {
-        t == 0 && 0 < self.asked.separation && self.column(i, 1) != self.column(i, 0)
-    }
-
-    #[tactic(auto, unfolding(crate::specs::Check::run_touches))]
-    fn run_touches(self, t: usize, i: usize) -> bool
-        requires { i < length self.asked.rows.bottom.now }
-        ensures { result ≡ run_touches (length self.entry.asked.rows.bottom.now) self.entry.asked.separation (column_in self.entry.columns.now self.entry.asked.separation) t i }
-    {
-        t < self.asked.separation
-            && i + 1 < self.asked.rows.bottom.len()
-            && self.run(i + 1, t).0 <= self.run(i, t).1
-    }
-
-    #[tactic(auto, unfolding(crate::specs::Check::fault_at))]
-    fn fault_at(self, t: usize, i: usize) -> bool
-        requires { i < length self.asked.rows.bottom.now }
-        ensures { result ≡ fault_of self.entry.asked.rows.bottom.now self.entry.asked.rows.top.now self.entry.asked.separation self.entry.asked.offset self.entry.columns.now t i }
-    {
-        self.start_wrong(t, i) || self.end_wrong(t, i) || self.steps_aside(t, i) || self.run_touches(t, i)
+        TableWire {
+            table: self,
+            wire: i,
+        }
     }
 
     // The first wire with a fault on track t.
     fn wire_fault(self, t: usize) -> Option<usize>
-        requires { t ≤ self.asked.separation }
-        ensures { FirstWire (fault_of self.entry.asked.rows.bottom.now self.entry.asked.rows.top.now self.entry.asked.separation self.entry.asked.offset self.entry.columns.now t) t (length self.entry.asked.rows.bottom.now) result }
+        ensures { FirstWire (faults self.entry.asked self.entry.columns.now t) t (pairs self.entry.asked) result }
     {
-        (0..self.asked.rows.bottom.len()).find(|&i| self.fault_at(t, i))
+        (0..self.asked.rows.bottom.len()).find(|&i| self.wire(i).fault_at(t))
     }
 
     // The first fault by track, then wire.
     fn first_fault(self) -> Result<(), Refusal>
-        ensures { result ≡ first_fault self.entry.asked.rows.bottom.now self.entry.asked.rows.top.now self.entry.asked.separation self.entry.asked.offset self.entry.columns.now }
+        ensures { let q = self.entry.asked in result ≡ first_fault q.rows.bottom.now q.rows.top.now q.separation q.offset self.entry.columns.now }
     {
         for t in 0..=self.asked.separation {
             if let Some(i) = self.wire_fault(t) {
@@ -117,38 +68,117 @@ impl Table<'_> {
         Ok(())
     }
 
-    // The columns of wire i.
-    fn wire(&self, i: usize) -> &[i32]
-        requires { i < length self.now.asked.rows.bottom.now }
-        ensures len { length result.now ≡ self.now.asked.separation + 1 }
-        ensures columns { (t : ℕ) → t ≤ self.now.asked.separation → pad result.now t ≡ column_in self.now.columns.now self.now.asked.separation i t }
-    {
-        let at = places(i, self.asked.separation);
-        &self.columns[at..at + self.asked.separation + 1]
-    }
-
-    // Whether wire i starts and ends on its pads, and leaves the lower one straight up.
-    fn ends_right(self, i: usize) -> bool
-        requires { i < length self.asked.rows.bottom.now }
-        ensures { result ≡ not (ends_wrong self.entry.asked.separation (pad self.entry.asked.rows.bottom.now) (top_pad self.entry.asked.rows.top.now self.entry.asked.offset) (column_in self.entry.columns.now self.entry.asked.separation) i) }
-    {
-        !(self.start_wrong(0, i) || self.end_wrong(self.asked.separation, i) || self.steps_aside(0, i))
-    }
-
     // Whether wire i has no fault on any track.
-    fn wire_clear(self, i: usize) -> bool
-        requires { i < length self.asked.rows.bottom.now }
-        ensures { (result ≡ true) ↔ WireClear (length self.entry.asked.rows.bottom.now) self.entry.asked.separation (pad self.entry.asked.rows.bottom.now) (top_pad self.entry.asked.rows.top.now self.entry.asked.offset) (column_in self.entry.columns.now self.entry.asked.separation) i }
+    fn is_clear(self, i: usize) -> bool
+        requires { i < pairs self.asked }
+        ensures { (result ≡ true) ↔ Clear self.entry.asked self.entry.columns.now i }
     {
-        self.ends_right(i)
-            && (i + 1 == self.asked.rows.bottom.len() || touches(self.wire(i), self.wire(i + 1), self.asked.separation) == 0)
+        let wire = self.wire(i);
+        if !wire.ends_right() {
+            return false;
+        }
+        match wire.next() {
+            Some(next) => touches(wire.columns(), next.columns(), self.asked.separation) == 0,
+            None => true,
+        }
     }
 
     // Whether there is no fault at all, wire by wire as the table lies in memory. The search, which goes by track, is left to tables that have one.
-    fn no_fault(self) -> bool
-        ensures { (result ≡ true) ↔ NoFault (length self.entry.asked.rows.bottom.now) self.entry.asked.separation (pad self.entry.asked.rows.bottom.now) (top_pad self.entry.asked.rows.top.now self.entry.asked.offset) (column_in self.entry.columns.now self.entry.asked.separation) }
+    fn is_faultless(self) -> bool
+        ensures { (result ≡ true) ↔ Faultless self.entry.asked self.entry.columns.now }
     {
-        (0..self.asked.rows.bottom.len()).all(|i| self.wire_clear(i))
+        (0..self.asked.rows.bottom.len()).all(|i| self.is_clear(i))
+    }
+}
+
+// One of its wires.
+#[derive(Clone, Copy)]
+struct TableWire<'a> {
+    table: Table<'a>,
+    wire: usize,
+    ghost inside: { wire < length table.asked.rows.bottom.now },
+}
+
+impl<'a> TableWire<'a> {
+    // The columns on which it enters tracks 0 to s.
+    fn columns(self) -> &'a [i32]
+        ensures len { length result.now ≡ self.entry.table.asked.separation + 1 }
+        ensures columns { let q = self.entry.table.asked in
+            (t : ℕ) → t ≤ q.separation → pad result.now t ≡ entered q self.entry.table.columns.now self.entry.wire t }
+    {
+        let s = self.table.asked.separation;
+        let at = places(self.wire, s);
+        &self.table.columns[at..at + s + 1]
+    }
+
+    // The leftmost and the rightmost column of its run on track t.
+    fn run(self, t: usize) -> (i32, i32)
+        requires { t < self.table.asked.separation }
+        ensures { let e = entered self.entry.table.asked self.entry.table.columns.now in
+            (result.0 ≡ leftmost e self.entry.wire t) × (result.1 ≡ rightmost e self.entry.wire t) }
+    {
+        let columns = self.columns();
+        let (enters, leaves) = (columns[t], columns[t + 1]);
+        (enters.min(leaves), enters.max(leaves))
+    }
+
+    #[tactic(auto, unfolding(crate::specs::Check::start_wrong))]
+    fn start_wrong(self, t: usize) -> bool
+        ensures { result ≡ start_wrong (bottom self.entry.table.asked) (entered self.entry.table.asked self.entry.table.columns.now) t self.entry.wire }
+    {
+        t == 0 && self.columns()[0] != self.table.asked.rows.bottom[self.wire]
+    }
+
+    #[tactic(auto, unfolding(crate::specs::Check::end_wrong))]
+    fn end_wrong(self, t: usize) -> bool
+        ensures { let q = self.entry.table.asked in result ≡ end_wrong q.separation (top q) (entered q self.entry.table.columns.now) t self.entry.wire }
+    {
+        t == self.table.asked.separation
+            && self.columns()[t] != top_pad(self.table.asked, self.wire)
+    }
+
+    #[tactic(auto, unfolding(crate::specs::Check::steps_aside))]
+    fn steps_aside(self, t: usize) -> bool
+        ensures { let q = self.entry.table.asked in result ≡ steps_aside q.separation (entered q self.entry.table.columns.now) t self.entry.wire }
+    {
+        t == 0 && 0 < self.table.asked.separation && self.columns()[1] != self.columns()[0]
+    }
+
+    // The wire to its right.
+    fn next(self) -> Option<TableWire<'a>>
+        ensures { MatchOption result (self.entry.wire + 1 ≡ pairs self.entry.table.asked) (λ w. (w.table ≡ self.entry.table) × (w.wire ≡ self.entry.wire + 1)) }
+    {
+        if self.wire + 1 < self.table.asked.rows.bottom.len() {
+            return Some(self.table.wire(self.wire + 1));
+        }
+        None
+    }
+
+    #[tactic(auto, unfolding(crate::specs::Check::run_touches))]
+    fn run_touches(self, t: usize) -> bool
+        ensures { let q = self.entry.table.asked in result ≡ run_touches (pairs q) q.separation (entered q self.entry.table.columns.now) t self.entry.wire }
+    {
+        if t < self.table.asked.separation
+            && let Some(next) = self.next()
+        {
+            return next.run(t).0 <= self.run(t).1;
+        }
+        false
+    }
+
+    #[tactic(auto, unfolding(crate::specs::Check::fault_at))]
+    fn fault_at(self, t: usize) -> bool
+        ensures { result ≡ faults self.entry.table.asked self.entry.table.columns.now t self.entry.wire }
+    {
+        self.start_wrong(t) || self.end_wrong(t) || self.steps_aside(t) || self.run_touches(t)
+    }
+
+    // Whether it starts and ends on its pads, and leaves the lower one straight up.
+    fn ends_right(self) -> bool
+        ensures { let q = self.entry.table.asked in
+            result ≡ not (ends_wrong q.separation (bottom q) (top q) (entered q self.entry.table.columns.now) self.entry.wire) }
+    {
+        !(self.start_wrong(0) || self.end_wrong(self.table.asked.separation) || self.steps_aside(0))
     }
 }
 
@@ -159,14 +189,15 @@ fn not_left(x: i32, y: i32) -> u32
     u32::from(y <= x)
 }
 
-// 0 where a run from column p to p2 is wholly to the left of a run from q to q2. Four comparisons, added up, are quicker than the ends of the runs.
+// How many of the four pairs of ends of two runs, one from column p to p2 and the next wire's from q to q2, are out of order: none where the first is wholly to
+// the left. Four comparisons, added up, are quicker than the ends of the runs.
 fn touch(p: i32, p2: i32, q: i32, q2: i32) -> u32
     ensures { (result ≤ 4) × ((result ≡ 0) ↔ (larger_of p p2 <ℤ smaller_of q q2)) }
 {
     not_left(p, q) + not_left(p, q2) + not_left(p2, q) + not_left(p2, q2)
 }
 
-// 0 where the runs of two neighbours are in order on all tracks below s. It counts, and doesn't stop at the first fault, so that the loop has no branch.
+// The same of the runs of two neighbours on all tracks below s. It counts, and doesn't stop at the first fault, so that the loop has no branch.
 fn touches(p: &[i32], q: &[i32], s: usize) -> u32
     requires { (s ≤ max_tracks) × (s < length p.now) × (s < length q.now) }
     ensures { (result ≡ 0) ↔ RunsApart (pad p.now) (pad q.now) s }

@@ -1,4 +1,4 @@
-// The column on which a wire enters a track (01, "Drawing and checking"): what a drawing writes for a whole wire and what frames 21 ask for one place at a time.
+// The column on which a wire enters a track (01, "Drawing and checking"): what a drawing writes for a whole wire, and what frames 21 ask for a place at a time.
 ghost use Rattle.std.specs.Prelude.{◌≡◌, ◌+◌, ◌≤◌, ◌<◌, length};
 ghost use Rattle.std.specs.Int.Signed.{lt_z};
 ghost use Rattle.wiring.specs.Wiring.{pad, top_pad};
@@ -40,6 +40,7 @@ impl<'a> Wire<'a> {
             end: top_pad(q, i),
         }
     }
+
     // Whether it goes to its left.
     pub(crate) fn goes_left(self) -> bool
         ensures { result ≡ lt_z self.entry.end (pad self.entry.row.now self.entry.pad) }
@@ -47,7 +48,6 @@ impl<'a> Wire<'a> {
         self.end < self.row[self.pad]
     }
 
-    #[tactic(auto, using(crate::proofs::Wires::held))]
     // 01's e_t of a wire that goes to its right, where pad i + t still holds it.
     pub(crate) fn right(self, t: usize) -> i32
         requires { self.pad + t < length self.row.now }
@@ -56,7 +56,6 @@ impl<'a> Wire<'a> {
         self.end.min(self.row[self.pad + t] - t as i32)
     }
 
-    #[tactic(auto, using(crate::proofs::Wires::held))]
     // The same of a wire that goes to its left, where pad i - t still holds it.
     pub(crate) fn left(self, t: usize) -> i32
         requires { t ≤ self.pad }
@@ -71,7 +70,11 @@ impl<'a> Wire<'a> {
         ensures { result ≡ entry (length self.entry.row.now) (pad self.entry.row.now) self.entry.end self.entry.pad t }
     {
         if self.goes_left() {
-            if t <= self.pad { self.left(t) } else { self.end }
+            if t <= self.pad {
+                self.left(t)
+            } else {
+                self.end
+            }
         } else if t < self.row.len() - self.pad {
             self.right(t)
         } else {

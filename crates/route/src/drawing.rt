@@ -5,7 +5,8 @@ ghost use Rattle.wiring.specs.Drawing.{entry};
 ghost use Rattle.jumper.specs.Limits.{max_pairs, max_tracks};
 ghost use Rattle.jumper.specs.Asked.{check_asked, Asked};
 ghost use Rattle.route.specs.Table.{columns};
-ghost use Rattle.route.specs.Draw.{wire_drawn, all_drawn, DrawWireAnswer, DrawAllAnswer, FitAsked};
+ghost use Rattle.route.specs.Draw.{wire_drawn, all_drawn, DrawWireAnswer, DrawAllAnswer};
+ghost use Rattle.route.specs.Asked.{FitAsked};
 
 use crate::column::Wire;
 use fit::misfit::fit;
@@ -14,7 +15,14 @@ use jumper::refusal::Refusal;
 use jumper::rows::Rows;
 
 // Wire `wire` into s + 1 places: refusals 1 to 7, WIRE, BUFFER, NOFIT.
-pub fn draw_wire(a: &[i32], b: &[i32], s: usize, d: i32, wire: usize, out: &mut [i32]) -> Result<(), Refusal>
+pub fn draw_wire(
+    a: &[i32],
+    b: &[i32],
+    s: usize,
+    d: i32,
+    wire: usize,
+    out: &mut [i32],
+) -> Result<(), Refusal>
     ensures { DrawWireAnswer a.now b.now s d wire out.old out.new result }
 {
     let (q, fits) = asked(a, b, s, d)?;
@@ -43,8 +51,13 @@ pub fn draw_all(a: &[i32], b: &[i32], s: usize, d: i32, out: &mut [i32]) -> Resu
 }
 
 // What `fit` says, its refusals 1 to 7 apart from NOFIT, before which others come. It looks at the rows, so they are looked at once.
-fn asked<'a>(a: &'a [i32], b: &'a [i32], s: usize, d: i32) -> Result<(Question<'a>, Result<(), Refusal>), Refusal>
-    ensures ok { IfOk result (λ p. FitAsked a.now b.now s d p.0.rows.bottom.now p.0.rows.top.now p.0.separation p.0.offset p.1) }
+fn asked<'a>(
+    a: &'a [i32],
+    b: &'a [i32],
+    s: usize,
+    d: i32,
+) -> Result<(Question<'a>, Result<(), Refusal>), Refusal>
+    ensures ok { IfOk result (λ p. FitAsked a.now b.now s d p.0 p.1) }
     ensures err { IfErr result (λ r. check_asked a.now b.now s d ≡ Err r) }
 {
     match fit(a, b, s, d) {

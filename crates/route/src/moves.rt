@@ -52,7 +52,8 @@ impl Writer<'_> {
         ensures same { (self.new.out.ghost_name ≡ self.old.out.ghost_name) × (length self.new.out.now ≡ length self.old.out.now) }
         ensures wrote { TrackOut (move_text m) self.old.out.now self.old.at result self.new.at self.new.out.now }
     {
-        if m.from == m.to {
+        let Move { from, to, .. } = m;
+        if from == to {
             return true;
         }
         let next = put_move(self.out, self.at, m);
@@ -75,7 +76,8 @@ impl Moves<'_> {
     // The wires from `wire` and its `track` on.
     fn give(self, wire: usize, track: usize, writer: &mut Writer<'_>) -> Reached
         ensures same { (writer.new.out.ghost_name ≡ writer.old.out.ghost_name) × (length writer.new.out.now ≡ length writer.old.out.now) }
-        ensures wrote { RouteOut self.entry.line self.entry.asked.separation self.entry.asked.offset self.entry.asked.rows.bottom.now self.entry.asked.rows.top.now wire track writer.old.out.now writer.old.at result.wire result.track result.at writer.new.out.now }
+        ensures wrote { RouteOut self.entry.line self.entry.asked wire track writer.old.out.now writer.old.at
+            result.wire result.track result.at writer.new.out.now }
     {
         let n = self.asked.rows.bottom.len();
         let mut next = track;
@@ -96,11 +98,12 @@ impl Moves<'_> {
         }
     }
 
-    // One wire from track `track` on; the track that is next where there was no room for its frame. A wire that has come to the column of its top pad stays there.
+    // One wire from track `track` on; the track that is next, where there was no room for its frame. A wire that has come to the column of its top pad
+    // stays there.
     fn give_wire(self, i: usize, track: usize, writer: &mut Writer<'_>) -> Option<usize>
         requires { i < length self.asked.rows.bottom.now }
         ensures same { (writer.new.out.ghost_name ≡ writer.old.out.ghost_name) × (length writer.new.out.now ≡ length writer.old.out.now) }
-        ensures wrote { WireOut self.entry.line self.entry.asked.separation self.entry.asked.offset self.entry.asked.rows.bottom.now self.entry.asked.rows.top.now i track writer.old.out.now writer.old.at result writer.new.at writer.new.out.now }
+        ensures wrote { WireOut self.entry.line self.entry.asked i track writer.old.out.now writer.old.at result writer.new.at writer.new.out.now }
     {
         let wire = Wire::of(self.asked, i);
         let mut from = wire.column(track);

@@ -4,7 +4,7 @@ use lib.IntN.{ℤ}
 use mathlib.Core.Path.{◌≡◌, refl, sym, ap, ◌∙◌}
 use mathlib.Core.Bool.{false}
 use mathlib.Core.List.{List, [], ◌++◌, append_assoc, append-nil}
-use Prim.Native.Nat.{ℕ, ◌+◌, ◌-◌, ◌<◌, ◌≤◌}
+use Prim.Native.Nat.{ℕ, ◌+◌, ◌-◌, ◌≤◌}
 use native.Mathlib.Omega.{arith}
 use lib.ListN.{length, drop, take, length-drop}
 use lib.Seq.{take_all, drop-drop}
@@ -13,10 +13,10 @@ use Rattle.sheet.specs.Owes.{pending, later, owes, Fresh, Busy, Given, Fed, Fini
 use Rattle.sheet.specs.Parts.{TakenIn}
 use Rattle.sheet.specs.declared.state.State.{State}
 
-pub gave_on : {s r : State} {a b : List ℤ} {out out' : List ℕ} {n to : ℕ} (line : List ℕ) → Given s a b out n r to out' → (rest : List ℕ)
+pub gave_on : (s r : State) (line : List ℕ) (a b : List ℤ) (out out' : List ℕ) (n to : ℕ) → Given s a b out n r to out' → (rest : List ℕ)
     → take n out ++ owes s line a b rest ≡ take to out' ++ owes r line a b rest
 unfolding owes
-gave_on {s = s} {r = r} {a = a} {b = b} {out = out} {out' = out'} {n = n} {to = to} line g rest =
+gave_on s r line a b out out' n to g rest =
     sym (append_assoc (take n out) (pending s a b) (later s line a b rest))
     ∙ ap (λ (l : List ℕ). l ++ later s line a b rest) g.gave
     ∙ ap (λ (l : List ℕ). (take to out' ++ pending r a b) ++ l) (sym (g.same line rest))
@@ -35,7 +35,7 @@ pub fed_more : {P : List ℕ} {W : List ℕ → List ℕ} {s r t : State} {line 
     → (rest : List ℕ) → W rest ≡ take to out' ++ owes t line' a' b' (drop (used + u) piece ++ rest)
 fed_more {r = r} {t = t} {line = line} {a = a} {b = b} {out' = out'} {line' = line'} {a' = a'} {b' = b'} {to = to} {u = u} piece used e inv g k rest =
     inv rest
-    ∙ gave_on line g (drop used piece ++ rest)
+    ∙ gave_on _ _ line _ _ _ _ _ _ g (drop used piece ++ rest)
     ∙ ap (λ (l : List ℕ). take to out' ++ l)
     (ap (λ (l : List ℕ). owes r line a b (l ++ rest)) (sym e) ∙ k.owed rest ∙ ap (λ (l : List ℕ). owes t line' a' b' (l ++ rest)) (ap (drop u) e ∙ drop-drop u used piece))
 
@@ -54,26 +54,30 @@ pub data Run : State → List ℕ → List ℤ → List ℤ → List ℕ → Lis
       → Run r line a b sheet w t l x y left
       → Run s line a b sheet (take to out' ++ w) t l x y left
 
-pub run_owes : {s t : State} {line sheet w l left : List ℕ} {a b x y : List ℤ} → Run s line a b sheet w t l x y left → owes s line a b sheet ≡ w ++ owes t l x y left
+pub run_owes : {s t : State} {line sheet w l left : List ℕ} {a b x y : List ℤ} → Run s line a b sheet w t l x y left
+    → owes s line a b sheet ≡ w ++ owes t l x y left
 run_owes here = refl
-run_owes (feeds {out' = out'} {w = w} {to = to} rest f p) = f.owed rest ∙ ap (λ (z : List ℕ). take to out' ++ z) (run_owes p) ∙ sym (append_assoc (take to out') w _)
+run_owes (feeds {out' = out'} {w = w} {to = to} rest f p) = f.owed rest ∙ ap (λ (z : List ℕ). take to out' ++ z) (run_owes p)
+    ∙ sym (append_assoc (take to out') w _)
 run_owes (gives {s = s} {r = r} {line = line} {out = out} {out' = out'} {w = w} {sheet = sheet} {a = a} {b = b} {to = to} g p) =
-    gave_on line g sheet ∙ ap (λ (z : List ℕ). take to out' ++ z) (run_owes p) ∙ sym (append_assoc (take to out') w _)
+    gave_on _ _ line _ _ _ _ _ _ g sheet ∙ ap (λ (z : List ℕ). take to out' ++ z) (run_owes p) ∙ sym (append_assoc (take to out') w _)
 
 -- after the end: calls of `give` alone
 pub data Drain (a b : List ℤ) : State → List ℕ → State → Type 0 where
   dry : {s : State} → Drain a b s [] s
   gives : {s r t : State} {out out' w : List ℕ} {to : ℕ} → Given s a b out 0 r to out' → Drain a b r w t → Drain a b s (take to out' ++ w) t
 
-drained : {a b : List ℤ} {s t : State} {w : List ℕ} (line : List ℕ) → Drain a b s w t → (owes s line a b [] ≡ w ++ owes t line a b []) × (later t line a b [] ≡ later s line a b [])
+drained : {a b : List ℤ} {s t : State} {w : List ℕ} (line : List ℕ) → Drain a b s w t
+    → (owes s line a b [] ≡ w ++ owes t line a b []) × (later t line a b [] ≡ later s line a b [])
 drained line dry = (refl, refl)
 drained {a = a} {b = b} line (gives {s = s} {r = r} {out = out} {out' = out'} {w = w} {to = to} g p) =
     let d = drained line p in
-    (gave_on line g [] ∙ ap (λ (z : List ℕ). take to out' ++ z) d.0 ∙ sym (append_assoc (take to out') w _), d.1 ∙ g.same line [])
+    (gave_on _ _ line _ _ _ _ _ _ g [] ∙ ap (λ (z : List ℕ). take to out' ++ z) d.0 ∙ sym (append_assoc (take to out') w _), d.1 ∙ g.same line [])
 
 -- THE LAW: run from a fresh state over the whole sheet until `busy` says no, finish, and give until it says no again. What was written in all is the
 -- answer to the sheet
-pub whole_sheet : {s u v t : State} {line sheet w l w' : List ℕ} {a b x y : List ℤ} → Fresh s → Run s line a b sheet w u l x y [] → Busy u false → Finished u l x y v
+pub whole_sheet : {s u v t : State} {line sheet w l w' : List ℕ} {a b x y : List ℤ} → Fresh s → Run s line a b sheet w u l x y [] → Busy u false
+    → Finished u l x y v
     → Drain x y v w' t → Busy t false → w ++ w' ≡ answers sheet
 whole_sheet {t = t} {line = line} {sheet = sheet} {w = w} {l = l} {w' = w'} {a = a} {b = b} {x = x} {y = y} f p idle g q idle' =
     let d = drained l q in

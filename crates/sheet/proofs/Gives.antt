@@ -57,7 +57,8 @@ pub record Written (s : State) (a b : List ℤ) (out : List ℕ) (at : ℕ) (lef
   pub same : length out' ≡ length out
   pub fits : at ≤ length out → to ≤ length out
 
-pub cut_done : {s : State} {a b : List ℤ} {k : Option Answer} {out out' : List ℕ} {at to : ℕ} → due_text k ≡ cut_text s.cut → length out' ≡ length out → AnswerPut k out at to out'
+pub cut_done : {s : State} {a b : List ℤ} {k : Option Answer} {out out' : List ℕ} {at to : ℕ} → due_text k ≡ cut_text s.cut → length out' ≡ length out
+    → AnswerPut k out at to out'
     → Written s a b out at (due_text s.due ++ left_text s.route a b) out' to
 unfolding pending
 cut_done {s = s} {a = a} {b = b} {out = out} {at = at} cut same f =
@@ -68,7 +69,8 @@ cut_done {s = s} {a = a} {b = b} {out = out} {at = at} cut same f =
       fits = f.fits;
     }
 
-due_done : {s : State} {a b : List ℤ} {out one two : List ℕ} {at p q : ℕ} → Written s a b out at (due_text s.due ++ left_text s.route a b) one p → length two ≡ length one
+due_done : {s : State} {a b : List ℤ} {out one two : List ℕ} {at p q : ℕ} → Written s a b out at (due_text s.due ++ left_text s.route a b) one p
+    → length two ≡ length one
     → AnswerPut s.due one p q two → Written s a b out at (left_text s.route a b) two q
 due_done {s = s} {a = a} {b = b} {one = one} {p = p} w same g =
     record {
@@ -77,12 +79,14 @@ due_done {s = s} {a = a} {b = b} {one = one} {p = p} w same g =
       fits = λ h. omega (arith, w.fits h, g.fits, w.same);
     }
 
-pub both_done : {s : State} {a b : List ℤ} {k : Option Answer} {out one two : List ℕ} {at p q : ℕ} → due_text k ≡ cut_text s.cut → length one ≡ length out → AnswerPut k out at p one
+pub both_done : {s : State} {a b : List ℤ} {k : Option Answer} {out one two : List ℕ} {at p q : ℕ} → due_text k ≡ cut_text s.cut → length one ≡ length out
+    → AnswerPut k out at p one
     → length two ≡ length one → AnswerPut s.due one p q two → Written s a b out at (left_text s.route a b) two q
 both_done cut l f m g = due_done (cut_done cut l f) m g
 
 -- the 20 that is due has no room
-pub due_full : {s : State} {a b : List ℤ} {out one two : List ℕ} {at p : ℕ} → Written s a b out at (due_text s.due ++ left_text s.route a b) one p → two ≡ one → length one < p + 35
+pub due_full : {s : State} {a b : List ℤ} {out one two : List ℕ} {at p : ℕ} → Written s a b out at (due_text s.due ++ left_text s.route a b) one p → two ≡ one
+    → length one < p + 35
     → Given s a b out at (record s { cut = None }) p two
 unfolding pending later
 due_full w e h = rw e (record { gave = w.gave; same = (λ line rest. refl); fits = w.fits; far = λ _. omega (arith, w.same) })
@@ -93,7 +97,8 @@ unfolding pending later is_busy
 no_route w e = record { gave = w.gave; same = (λ line rest. refl); fits = w.fits; far = λ h. absurd (true≢false (sym h ∙ e)) }
 
 pub route_given : {s : State} {r : Route} {a b : List ℤ} {out two out' : List ℕ} {at q i t to : ℕ} → Written s a b out at (left_text s.route a b) two q
-    → s.route ≡ Some r → r.wires ≤ 2048 → length a ≡ 2048 → MovesOut r.line r.separation r.offset (take r.wires a) (take r.wires b) r.wire r.track two q i t to out'
+    → s.route ≡ Some r → r.wires ≤ 2048 → length a ≡ 2048
+    → MovesOut r.line r.separation r.offset (take r.wires a) (take r.wires b) r.wire r.track two q i t to out'
     → Given s a b out at (record s { cut = None; due = None; route = Some (record r { wire = i; track = t }) }) to out'
 unfolding pending left_text later is_busy
 route_given {r = r} {a = a} {b = b} {two = two} {q = q} {i = i} w is few full m =

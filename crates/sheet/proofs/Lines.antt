@@ -121,9 +121,11 @@ module _ (piece : List ℕ) (n : ℕ) (first : IsFirstByte (is_byte 10) piece (S
       ∙ ends t (drop (n + 1) piece ++ rest)
 
   -- it stands in the piece
-  pub stands : (line : List ℕ) (at : ℕ) → at ≡ 0 → (rest : List ℕ) → frames_from (take at line) (piece ++ rest) ≡ text_frame (take n piece) ∷ frames_from [] (drop (n + 1) piece ++ rest)
+  pub stands : (line : List ℕ) (at : ℕ) → at ≡ 0 → (rest : List ℕ)
+      → frames_from (take at line) (piece ++ rest) ≡ text_frame (take n piece) ∷ frames_from [] (drop (n + 1) piece ++ rest)
   stands line at e = whole line (take n piece) at (λ rest. ap (λ (i : ℕ). frames_from (take i line) (take n piece ++ rest)) e ∙ no_feed [] (take n piece) rest before)
 
   -- it began before the piece
-  pub goes_on : (line line' : List ℕ) (at k : ℕ) → Kept line at (take n piece) k line' → (rest : List ℕ) → frames_from (take at line) (piece ++ rest) ≡ text_frame (take k line') ∷ frames_from [] (drop (n + 1) piece ++ rest)
+  pub goes_on : (line line' : List ℕ) (at k : ℕ) → Kept line at (take n piece) k line' → (rest : List ℕ)
+      → frames_from (take at line) (piece ++ rest) ≡ text_frame (take k line') ∷ frames_from [] (drop (n + 1) piece ++ rest)
   goes_on line line' at k g = whole line (take k line') at (g.frames before)

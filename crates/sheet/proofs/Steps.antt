@@ -93,7 +93,8 @@ module _ (s : State) (a b : List ℤ) (f : Frame) (t : Step) (a' b' : List ℤ) 
   pub plain_reacted : Plain t.did → r ≡ after t → Reacted s a b f r a' b'
   plain_reacted h e = rw e (record { out = after_text t a' b' h ∙ ap text_of k.told.event; to = k.told.mode; seen = k.seen; begun = refl })
 
-  pub completes_reacted : (o : Order) (n : Numbers) → t.did ≡ Completed o → PlanTold o.separation o.offset (take o.pairs a') (take o.pairs b') n → r ≡ complete t o n → Reacted s a b f r a' b'
+  pub completes_reacted : (o : Order) (n : Numbers) → t.did ≡ Completed o → PlanTold o.separation o.offset (take o.pairs a') (take o.pairs b') n
+      → r ≡ complete t o n → Reacted s a b f r a' b'
   unfolding pending
   completes_reacted o n d plan e =
       rw e (record {
@@ -125,7 +126,8 @@ full_text zero line h n = absurd (n refl)
 full_text (suc at) [] h n = absurd (omega arith)
 full_text (suc at) (x ∷ line) h n = refl
 
-idle_text : (l : Option ℕ) (k : Option Answer) (r : Option Route) (a b : List ℤ) → (is_some l || is_some k || has_wires r) ≡ false → cut_text l ++ (due_text k ++ left_text r a b) ≡ []
+idle_text : (l : Option ℕ) (k : Option Answer) (r : Option Route) (a b : List ℤ) → (is_some l || is_some k || has_wires r) ≡ false
+    → cut_text l ++ (due_text k ++ left_text r a b) ≡ []
 unfolding left_text
 idle_text (Some l) k r a b e = absurd (true≢false e)
 idle_text None (Some k) r a b e = absurd (true≢false e)
@@ -146,7 +148,8 @@ pub busy_told : (s : State) (r : Bool) → r ≡ is_busy s → Busy s r
 unfolding owes
 busy_told s r e = record { answer = e; idle = λ f line a b rest. rw (not_busy s a b (sym e ∙ f)) }
 
-pub wires_told : (o : Option Route) (v : Bool) (P : Route → Type 0) → MatchOption o (v ≡ false) P → ((r : Route) → P r → v ≡ (leb r.wires 2048 && ltb r.wire r.wires)) → v ≡ has_wires o
+pub wires_told : (o : Option Route) (v : Bool) (P : Route → Type 0) → MatchOption o (v ≡ false) P
+    → ((r : Route) → P r → v ≡ (leb r.wires 2048 && ltb r.wire r.wires)) → v ≡ has_wires o
 wires_told None v P m h = m
 wires_told (Some r) v P m h = h r m
 
@@ -179,15 +182,13 @@ module _ (s : State) (line : List ℕ) (a b : List ℤ) (full : length line ≡ 
       → told (events (seen_by s.machine) (mode_of s.machine a b) (last_frame (take s.at line))) ≡ text_of e → Finished s line a b r
   unfolding owes later frames_from last_frame events told
   ends e n k plain skips q =
-      let p : Plain t.did = rw k.answer plain in
-      let mode : mode_of r.machine a b ≡ skipping = ap (λ (z : State). mode_of z.machine a b) is ∙ k.mode ∙ skips in
-      let at : r.at ≡ 0 = ap (λ (z : State). z.at) is in
-      let text : pending r a b ≡ text_of e = ap (λ (z : State). pending z a b) is ∙ after_text t a b p ∙ ap text_of k.event in
-      record {
-        owed = simp (not_busy s a b idle) (q ∙ sym text ∙ sym (append-nil (pending r a b)) ∙ ap (λ (l : List ℕ). pending r a b ++ l) (sym (simp (at, mode))));
-        ended = λ h. simp (at, mode);
+      let mode : mode_of t.machine a b ≡ skipping = k.mode ∙ skips in
+      let text : pending (after t) a b ≡ text_of e = after_text t a b (rw k.answer plain) ∙ ap text_of k.event in
+      rw is (record {
+        owed = simp (not_busy s a b idle) (q ∙ sym text ∙ sym (append-nil (pending (after t) a b)) ∙ ap (λ (l : List ℕ). pending (after t) a b ++ l) (sym (simp mode)));
+        ended = λ h. simp mode;
         busy = λ h. absurd (true≢false (sym h ∙ idle));
-      }
+      })
 
   pub ends_fed : s.at ≡ 0 → Told (at_end (mode_of s.machine a b)) s.machine.seen a b t a b → Finished s line a b r
   unfolding last_frame events told

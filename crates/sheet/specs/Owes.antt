@@ -1,9 +1,10 @@
--- What a state stands for, and what the calls promise. The state is a handful of numbers; the line so far and the rows are in lent memory.
+-- What a state stands for, and what the calls promise. The state goes by value; the line so far and the rows are in lent memory.
 --
 -- `owes s line a b rest` is all that is still to come out, for any rest of the sheet. A fresh state owes `answers sheet`; each call hands out a
 -- part of what is owed and leaves a state that owes what is left. So whatever the pieces are, what comes out in all is `answers sheet`
 -- (the law `whole_sheet` of proofs/Feeds.antt, for runs that empty the buffer after each call).
-use Rattle.std.specs.Prelude.{Bool, true, false, cond, ◌&&◌, ◌||◌, Option, None, Some, is_some, ◌≡◌, List, [], ◌∷◌, ◌++◌, ℕ, ◌+◌, ◌<◌, ◌≤◌, eqb, ltb, leb, length, take, drop, ℤ}
+use Rattle.std.specs.Prelude.{Bool, true, false, cond, ◌&&◌, ◌||◌, Option, None, Some, is_some}
+use Rattle.std.specs.Prelude.{◌≡◌, List, [], ◌∷◌, ◌++◌, ℕ, ◌+◌, ◌<◌, ◌≤◌, eqb, ltb, leb, length, take, drop, ℤ}
 use Rattle.jumper.specs.Limits.{max_pairs}
 use Rattle.jumper.specs.declared.refusal.Refusal.TheVariants.{Sequence}
 use Rattle.frame.specs.Frame.{Frame, bad, text_frame}
@@ -51,7 +52,7 @@ later s line a b rest = told (events (seen_by s.machine) (mode_of s.machine a b)
 unfoldable pub owes : State → List ℕ → List ℤ → List ℤ → List ℕ → List ℕ
 owes s line a b rest = pending s a b ++ later s line a b rest
 
--- whether anything may be left to write
+-- whether a route has wires left, and whether anything may be left to write
 abbrev pub has_wires : Option Route → Bool
 has_wires None = false
 has_wires (Some r) = leb r.wires max_pairs && ltb r.wire r.wires

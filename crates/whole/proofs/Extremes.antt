@@ -1,5 +1,5 @@
 -- The first place of the largest, and of the smallest: one law over the order by which they are picked.
-use mathlib.Core.Path.{◌≡◌, refl, ap}
+use mathlib.Core.Path.{◌≡◌, refl}
 use mathlib.Core.Bool.{Bool, true, false, cond}
 use mathlib.Core.Logic.{⊎_elim}
 use Prim.Native.Nat.{ℕ, zero, suc, ◌+◌, ◌≤◌, ◌<◌}
@@ -102,17 +102,3 @@ largest_first f = refl
 pub smallest_first : (f : ℕ → ℤ) → smallest f 0 ≡ f 0
 unfolding first_by
 smallest_first f = refl
-
--- the search for the first place, from the left: it isn't past, and the test tells whether it is reached
-module _ (f : ℕ → ℤ) (n i : ℕ) where
-  pub largest_later : i ≤ largest_at f n → lt_z (f i) (largest f n) ≡ true → i < largest_at f n
-  largest_later h e = ⊎_elim (λ g. absurd (omega (arithℤ, true_lt (f i) (largest f n) e, ap f g))) (λ g. g) (eq-or-lt_of_le h)
-
-  pub largest_here : i ≤ largest_at f n → lt_z (f i) (largest f n) ≡ false → i ≡ largest_at f n
-  largest_here h e = ⊎_elim (λ g. g) (λ g. absurd (omega (arithℤ, false_lt (f i) (largest f n) e, (largest_law f n).first i g))) (eq-or-lt_of_le h)
-
-  pub smallest_later : i ≤ smallest_at f n → lt_z (smallest f n) (f i) ≡ true → i < smallest_at f n
-  smallest_later h e = ⊎_elim (λ g. absurd (omega (arithℤ, true_lt (smallest f n) (f i) e, ap f g))) (λ g. g) (eq-or-lt_of_le h)
-
-  pub smallest_here : i ≤ smallest_at f n → lt_z (smallest f n) (f i) ≡ false → i ≡ smallest_at f n
-  smallest_here h e = ⊎_elim (λ g. g) (λ g. absurd (omega (arithℤ, false_lt (smallest f n) (f i) e, (smallest_law f n).first i g))) (eq-or-lt_of_le h)

@@ -17,14 +17,10 @@ climb-requires t c =
     )
 
 pub over-level-requires-clause-within : goal.over-level-requires-clause-within
-over-level-requires-clause-within t c =
-    let e = c.even_half.result in
-    omega (arith, c.even_half.ensures.len, (over_next e.rows.now.accepted e.strided c.climb.ensures).0)
+over-level-requires-clause-within t c = omega (arith, c.even_half.ensures.len, (over_next c.even_half.result c.climb.ensures).0)
 
 pub over-level-requires-clause-cheap : goal.over-level-requires-clause-cheap
-over-level-requires-clause-cheap t c =
-    let e = c.even_half.result in
-    omega (arith, e.strided.few, (over_next e.rows.now.accepted e.strided c.climb.ensures).1)
+over-level-requires-clause-cheap t c = omega (arith, c.even_half.result.strided.few, (over_next c.even_half.result c.climb.ensures).1)
 
 pub returns : goal.returns
 returns t c =
@@ -33,10 +29,8 @@ returns t c =
     let s = rw c.unwrap.ensures at c.split_first_chunk_mut.ensures.cases in
     elim c.if-entries-gt1.branch [
       | then-entries-gt1 w ↦
-          let more = w.if-entries-gt1.true in
           let q = w.even_half.ensures in
           rw (w.below-is, w.level-is)
-          (more_halved e.len (x_of e) (y_of e) more l _ w.climb.result (by_evens e w.even_half.result (q.of, q.step, q.len) (rw s.1 at w.climb.ensures)) w.over-level.result w.over-level.ensures)
-      | else-entries-gt1 w ↦
-          rw (w.below-is, w.level-is, s.1) (one_halved e.len (x_of e) (y_of e) l (omega (arith, w.if-entries-gt1.false, e.strided.some)))
+          (more_halved {l = l} w.if-entries-gt1.true (by_evens e w.even_half.result (q.of, q.step, q.len) (rw s.1 at w.climb.ensures)) w.over-level.ensures)
+      | else-entries-gt1 w ↦ rw (w.below-is, w.level-is, s.1) (one_halved e.len (x_of e) (y_of e) l (omega (arith, w.if-entries-gt1.false, e.strided.some)))
     ]

@@ -5,10 +5,8 @@ use Rattle.best.proofs.plan.halve.Goals as goal
 pub kept_or_read-requires-clause-inside : goal.kept_or_read-requires-clause-inside
 kept_or_read-requires-clause-inside c = best_inside c.whole-entries.result _ _ _ c.climb-level.ensures
 
-pub kept_or_read-requires-clause-kept : goal.kept_or_read-requires-clause-kept
-kept_or_read-requires-clause-kept c = rw c.climb-level.ensures.level.best c.climb-level.ensures.level.kept
-
 pub returns : goal.returns
 returns c =
     let e = c.whole-entries in
-    planned e.result _ _ _ c.climb-level.ensures c.args.rows.now c.kept_or_read.result _ (ap (λ r. r.now) e.ensures.of) e.ensures.step e.ensures.len c.kept_or_read.ensures c.tracks_for.ensures
+    planned e.result _ _ _ c.climb-level.ensures c.args.rows.now c.kept_or_read.result _ (ap (λ r. r.now) e.ensures.of) e.ensures.step e.ensures.len
+    c.kept_or_read.ensures c.tracks_for.ensures

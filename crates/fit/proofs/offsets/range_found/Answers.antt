@@ -1,17 +1,7 @@
 use Rattle.std.proofs.Common.{sym, ◌∙◌, rules, length, FitsSigned, w32}
 use Rattle.wiring.specs.Fit.{lean_of}
-use Rattle.fit.proofs.Spans.{empty_range, low_first, high_first, low_fits, low_back, high_fits, high_back}
+use Rattle.fit.proofs.Spans.{empty_range, low_first, high_first, low_back, high_back}
 use Rattle.fit.proofs.offsets.range_found.Goals as goal
-
-pub overflow_sub-r : goal.overflow_sub-r
-overflow_sub-r c =
-    let f : FitsSigned w32 c.range_of-r.result.low = search rules in
-    low_fits c.args.rows c.args.s c.if-rows-s.false c.range_of-r.result c.range_of-r.ensures f
-
-pub overflow_add-r : goal.overflow_add-r
-overflow_add-r c =
-    let f : FitsSigned w32 c.range_of-r.result.high = search rules in
-    high_fits c.args.rows c.args.s c.if-rows-s.false c.range_of-r.result c.range_of-r.ensures f
 
 pub returns-then-is_empty : goal.returns-then-is_empty
 returns-then-is_empty c =

@@ -1,4 +1,4 @@
-use Rattle.std.proofs.Common.{◌≡◌, ◌/◌, length, take, ◌∙◌, arith, length-take-le}
+use Rattle.std.proofs.Common.{◌/◌, length, ◌∙◌, arith, length-take-le}
 use Rattle.frame.proofs.Scan.{no_digits, worth_below, unsound, decoded}
 use Rattle.frame.proofs.hex.decode.Goals as goal
 

@@ -8,7 +8,7 @@ returns-then-k-eq0 c =
     not_carried _ _
     (no_count _ (λ a b d.
     elim c.then-k-eq0.branch [
-      then-k-eq0-via-then-k-eq0 w ↦ omega arith
+      | then-k-eq0-via-then-k-eq0 w ↦ omega arith
       | then-k-eq0-via-else-k-eq0+then-k-gt16 w ↦ omega arith
       | then-k-eq0-via-else-k-eq0+else-k-gt16+then-bytes-k w ↦ omega arith
     ]))

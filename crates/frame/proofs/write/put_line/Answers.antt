@@ -1,8 +1,6 @@
-use Rattle.std.proofs.Common.{◌≡◌, ◌≤◌, ◌%◌, length, take, sum, refl, ap, ◌∙◌, arith}
+use Rattle.std.proofs.Common.{refl, arith}
 use Rattle.std.proofs.lemmas.Grind.{common_steps}
 use Rattle.std.proofs.lemmas.List.{take_all}
-use Rattle.frame.specs.Hex.{text_of}
-use Rattle.frame.specs.Puts.{puts}
 use Rattle.frame.proofs.Puts.{line_start, line_more, line_end, is_last, not_put}
 use Rattle.frame.proofs.write.put_line.Goals as goal
 

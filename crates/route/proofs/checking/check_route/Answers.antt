@@ -15,11 +15,11 @@ returns-then-table-places c =
     let e = rw (to_z-of_z w32 c.args.d c.ranges.d) at c.in_ok-asked.ensures.ok in
     check_short _ _ _ _ _ (question_asked c.in_ok-asked.asked e) (rw c.places.ensures at c.if-table-places.true)
 
-pub returns-then-no_fault : goal.returns-then-no_fault
-returns-then-no_fault c =
+pub returns-then-is_faultless : goal.returns-then-is_faultless
+returns-then-is_faultless c =
     let s = c.args in
     let e = rw (to_z-of_z w32 s.d c.ranges.d) at c.in_ok-asked.ensures.ok in
-    let none = rw (e.0, e.1, e.2, e.3) at (c.no_fault.ensures.0 c.if-no_fault.true) in
+    let none = rw (e.0, e.1, e.2, e.3) at (c.is_faultless.ensures.0 c.if-is_faultless.true) in
     check_read _ _ _ _ _ (question_asked c.in_ok-asked.asked e) (rw c.places.ensures at c.if-table-places.false) _
     (sym ((none_exactly (length s.a.now) s.s (pad s.a.now) (top_pad s.b.now s.d) (column_in s.table.now s.s)).1 none))
 

@@ -15,4 +15,4 @@ returns-in_err-fits c =
 pub returns : goal.returns
 returns c =
     let f = rw (to_z-of_z w32 c.args.d c.ranges.d) at c.in_ok-q.ensures.ok in
-    wire_done _ _ _ _ _ _ f.accepted c.if-a-wire.false c.if-out-s.false _ (rw (f.bottom, f.top, f.separation, f.offset) at c.draw_columns.ensures) (rw c.in_ok-fits.was at f.fits)
+    wire_done _ _ _ _ _ _ f.accepted c.if-a-wire.false c.if-out-s.false _ (rw (f.same.0, f.same.1, f.same.2, f.same.3) at c.draw_columns.ensures) (rw c.in_ok-fits.was at f.fits)

@@ -7,4 +7,4 @@ use Rattle.route.proofs.moves.give_moves.Goals as goal
 pub returns-in-Ok : goal.returns-in-Ok
 returns-in-Ok c =
     let e = rw (to_z-of_z w32 c.args.d c.ranges.d) at c.in-Ok.ensures.ok in
-    asked_route _ _ _ _ _ _ _ _ _ _ _ _ c.give.new.writer.out.now _ (question_asked c.in-Ok.asked e) (search rules) (rw (e.0, e.1, e.2, e.3) at c.give.ensures.wrote)
+    asked_route c.args.line c.in-Ok.asked e _ _ _ _ _ _ _ c.give.new.writer.out.now _ (question_asked c.in-Ok.asked e) (search rules) c.give.ensures.wrote

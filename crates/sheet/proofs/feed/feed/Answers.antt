@@ -24,7 +24,7 @@ pub returns-then-busy-2 : goal.returns-then-busy-2
 returns-then-busy-2 c =
     let inv = c.loop-used.invariant in
     record {
-      owed = (λ rest. inv.owed rest ∙ gave_on _ c.give-g.ensures (drop c.loop-used.used c.args.piece.now ++ rest));
+      owed = (λ rest. inv.owed rest ∙ gave_on _ _ _ _ _ _ _ _ _ c.give-g.ensures (drop c.loop-used.used c.args.piece.now ++ rest));
       within = inv.within;
       fits = (λ h. omega (arith, inv.fits h, c.give-g.ensures.fits));
       far = λ h. omega (arith, c.give-g.ensures.far (sym c.busy-then-busy.ensures.answer ∙ c.if-busy-2.true));

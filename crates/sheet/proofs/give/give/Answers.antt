@@ -12,10 +12,11 @@ returns-in_default-give_answer c =
 
 pub returns-in-Some-route : goal.returns-in-Some-route
 returns-in-Some-route c =
-    let w = both_done c.cut_answer.ensures c.give_answer.auto.out c.in-Some.ensures c.give_answer-2.auto.out c.in-Some-give_answer.ensures in
     let fits : SFits w32 c.in-Some-route.r.offset = search rules in
     let moves = simp to_z-of_z at c.give_moves-m.ensures in
-    simp to_z-of_z (route_given w c.in-Some-route.is c.if-r-le-MAX_PAIRS.true c.told-a moves)
+    simp to_z-of_z
+    (route_given (both_done c.cut_answer.ensures c.give_answer.auto.out c.in-Some.ensures c.give_answer-2.auto.out c.in-Some-give_answer.ensures)
+    c.in-Some-route.is c.if-r-le-MAX_PAIRS.true c.told-a moves)
 
 pub returns-in_default-route : goal.returns-in_default-route
 returns-in_default-route c =

@@ -34,7 +34,7 @@ loop-t-preserved c =
       put.ensures.same.1 ∙ loop.invariant.1,
       to,
       wire_step c.args.self.line q.separation e c.args.i W loop.writer.out.now put.new.self.out.now loop.t loop.writer.at put.new.self.at _ _ c.loop-t-test.true
-      loop.invariant.2 to loop.invariant.3 (put.ensures.wrote.wrote c.if-not-put.false),
+          loop.invariant.2 to loop.invariant.3 (put.ensures.wrote.wrote c.if-not-put.false),
       λ h. let y = loop.invariant.4 h in let z = put.ensures.wrote.fits (omega (arith, y, loop.invariant.1)) in omega (arith, z, loop.invariant.1),
     )
 
@@ -47,4 +47,14 @@ returns-clause-wrote c =
       gave = loop.invariant.3 ∙ ap (λ (z : List ℕ). take loop.writer.at loop.writer.out.now ++ z) none;
       fits = loop.invariant.4;
       far = λ h. absurd (h refl);
+    }
+
+pub returns-then-not-put-clause-wrote : goal.returns-then-not-put-clause-wrote
+returns-then-not-put-clause-wrote c =
+    let loop = c.loop-t in
+    let f = c.put.ensures.wrote.full c.if-not-put.true in
+    record {
+      gave = rw (f.0, f.1) loop.invariant.3;
+      fits = rw f.0 loop.invariant.4;
+      far = λ h. omega (arith, f.0, f.2, loop.invariant.1);
     }
