@@ -25,11 +25,11 @@ use Rattle.jumper.specs.declared.refusal.Side.{Side}
 use Rattle.jumper.specs.Rows.{Checked}
 use Rattle.jumper.proofs.Accepted.{numbered, refused_not, accepted_of}
 use Rattle.jumper.proofs.Checks.{accepted_asked, asked_accepted, early_asked}
-use Rattle.fit.specs.Misfit.{misfit_of, no_fit, FitAnswer}
+use Rattle.fit.specs.Misfit.{misfit_of, no_fit, FitAnswer, Witness}
 use Rattle.fit.specs.declared.misfit.Misfit.{Misfit}
 use Rattle.jumper.proofs.Wired.{wiring_exactly}
 use Rattle.route.specs.Table.{column_in, columns, wires, LegalRoute}
-use Rattle.route.specs.Draw.{drawn_of, drawn_wires, wire_drawn, all_drawn, DrawWireAnswer, DrawAllAnswer}
+use Rattle.route.specs.Draw.{drawn_of, drawn_wires, wire_drawn, all_drawn, wire_refusal, all_refusal, DrawWireAnswer, DrawAllAnswer}
 use Rattle.route.specs.Check.{NoFault, FirstFault, first_fault, route_checked, RouteCheck}
 use Rattle.route.proofs.Places.{columns_length, columns_at, wires_length, wires_at, wires_part}
 use Rattle.route.proofs.Faults.{searched}
@@ -154,101 +154,92 @@ module _ (a b : List ℤ) (s : ℕ) (d : ℤ) where
 
 -- ONE WIRE
 module _ (a b : List ℤ) (s : ℕ) (d : ℤ) (wire : ℕ) (out : List ℤ) where
+  -- a refusal draws nothing
+  wire_refused : (r : Refusal) → Err r ≡ wire_refusal a b s d wire (length out) → (Asked a b s d × (wire < length a) × (s < length out) × HasWiring a b s d → ⊥)
+      → ((refusal_numbers r).refusal ≡ 10) ↔ (Asked a b s d × (wire < length a) × (s < length out) × (HasWiring a b s d → ⊥))
+      → ((refusal_numbers r).refusal ≡ 10 → Witness a b s d (refusal_numbers r).pair (refusal_numbers r).side)
+      → DrawWireAnswer a b s d wire out out (Err r)
+  wire_refused r answer not prevents witness =
+      record {
+        answer = answer;
+        buffer = refl;
+        refused = λ z. refl;
+        draws = ((λ z. absurd (numbered r z)), (λ z. absurd (not z)));
+        places = λ z. absurd (numbered r z);
+        means = λ z. absurd (numbered r z);
+        legal = λ z. absurd (numbered r z);
+        prevents = prevents;
+        witness = witness;
+      }
+
   pub wire_early : (r : Refusal) → check_asked a b s d ≡ Err r → DrawWireAnswer a b s d wire out out (Err r)
   wire_early r e =
       let l = rw e at (early_asked a b s d) in
       let not : Asked a b s d → ⊥ = λ k. refused_not r (sym e ∙ asked_accepted a b s d k) in
-      record {
-        answer = sym (rw e);
-        buffer = refl;
-        refused = λ z. refl;
-        draws = ((λ z. absurd (numbered r z)), (λ z. absurd (not z.0)));
-        places = λ z. absurd (numbered r z);
-        means = λ z. absurd (numbered r z);
-        legal = λ z. absurd (numbered r z);
-        prevents = ((λ z. absurd (omega arith)), (λ z. absurd (not z.0)));
-        witness = λ z. absurd (omega arith);
-      }
+      wire_refused r (sym (rw e)) (λ z. not z.0) ((λ z. absurd (omega arith)), (λ z. absurd (not z.0))) (λ z. absurd (omega arith))
 
-  module _ (e : check_asked a b s d ≡ Ok tt) where
-    module _ (lt : wire < length a) where
-      module _ (room : s < length out) where
-        pub wire_misfit : (r : Refusal) → FitAnswer a b s d (Err r) → DrawWireAnswer a b s d wire out out (Err r)
-        wire_misfit r f =
-            let g : s + 1 ≤ length out = omega arith in
-            record {
-              answer = rw (e, lt-ltb wire (length a) lt, le-ltb (length out) (s + 1) g) (rw e at f.answer);
-              buffer = refl;
-              refused = λ z. refl;
-              draws = ((λ z. absurd (numbered r z)), (λ z. absurd (numbered r (f.fits.1 (z.0, z.3)))));
-              places = λ z. absurd (numbered r z);
-              means = λ z. absurd (numbered r z);
-              legal = λ z. absurd (numbered r z);
-              prevents = ((λ z. let p = f.prevents.0 z in (p.0, lt, room, p.1)), (λ z. f.prevents.1 (z.0, z.3)));
-              witness = f.witness;
-            }
+  module _ (e : check_asked a b s d ≡ Ok tt) (lt : wire < length a) (room : s < length out) where
+    pub wire_misfit : (r : Refusal) → FitAnswer a b s d (Err r) → DrawWireAnswer a b s d wire out out (Err r)
+    wire_misfit r f =
+        let g : s + 1 ≤ length out = omega arith in
+        wire_refused r (rw (e, lt-ltb wire (length a) lt, le-ltb (length out) (s + 1) g) (rw e at f.answer)) (λ z. numbered r (f.fits.1 (z.0, z.3)))
+        ((λ z. let p = f.prevents.0 z in (p.0, lt, room, p.1)), (λ z. f.prevents.1 (z.0, z.3)))
+        f.witness
 
-        pub wire_done : (out' : List ℤ) → out' ≡ wire_drawn a b s d wire out → FitAnswer a b s d (Ok tt) → DrawWireAnswer a b s d wire out out' (Ok tt)
-        wire_done out' h f =
-            let g : s + 1 ≤ length out = omega arith in
-            let k = f.fits.0 refl in
-            let at : (t : ℕ) → t ≤ s → pad out' t ≡ drawn_of a b d wire t = λ t l. rw h (columns_at (drawn_of a b d wire) (s + 1) t (drop (s + 1) out) (omega arith)) in
-            record {
-              answer = rw (e, lt-ltb wire (length a) lt, le-ltb (length out) (s + 1) g) (rw e at f.answer);
-              buffer = h;
-              refused = λ z. absurd (z refl);
-              draws = ((λ z. (k.0, lt, room, k.1)), (λ z. refl));
-              places = λ z. at;
-              means = λ z. wire_same (pad out') (drawn_of a b d wire) s at;
-              legal = λ z. drawn_legal k.0.rows s d k.1;
-              prevents = ((λ z. absurd (omega arith)), (λ z. absurd (z.3 k.1)));
-              witness = λ z. absurd (omega arith);
-            }
+    pub wire_done : (out' : List ℤ) → out' ≡ wire_drawn a b s d wire out → FitAnswer a b s d (Ok tt) → DrawWireAnswer a b s d wire out out' (Ok tt)
+    wire_done out' h f =
+        let g : s + 1 ≤ length out = omega arith in
+        let k = f.fits.0 refl in
+        let at : (t : ℕ) → t ≤ s → pad out' t ≡ drawn_of a b d wire t = λ t l. rw h (columns_at (drawn_of a b d wire) (s + 1) t (drop (s + 1) out) (omega arith)) in
+        record {
+          answer = rw (e, lt-ltb wire (length a) lt, le-ltb (length out) (s + 1) g) (rw e at f.answer);
+          buffer = h;
+          refused = λ z. absurd (z refl);
+          draws = ((λ z. (k.0, lt, room, k.1)), (λ z. refl));
+          places = λ z. at;
+          means = λ z. wire_same (pad out') (drawn_of a b d wire) s at;
+          legal = λ z. drawn_legal k.0.rows s d k.1;
+          prevents = ((λ z. absurd (omega arith)), (λ z. absurd (z.3 k.1)));
+          witness = λ z. absurd (omega arith);
+        }
 
 -- ALL WIRES
 module _ (a b : List ℤ) (s : ℕ) (d : ℤ) (out : List ℤ) where
+  all_refused : (r : Refusal) → Err r ≡ all_refusal a b s d (length out) → (Asked a b s d × (length a * (s + 1) ≤ length out) × HasWiring a b s d → ⊥)
+      → ((refusal_numbers r).refusal ≡ 10) ↔ (Asked a b s d × (length a * (s + 1) ≤ length out) × (HasWiring a b s d → ⊥))
+      → ((refusal_numbers r).refusal ≡ 10 → Witness a b s d (refusal_numbers r).pair (refusal_numbers r).side)
+      → DrawAllAnswer a b s d out out (Err r)
+  all_refused r answer not prevents witness =
+      record {
+        answer = answer;
+        buffer = refl;
+        refused = λ z. refl;
+        draws = ((λ z. absurd (numbered r z)), (λ z. absurd (not z)));
+        places = λ z. absurd (numbered r z);
+        legal = λ z. absurd (numbered r z);
+        prevents = prevents;
+        witness = witness;
+      }
+
   pub all_early : (r : Refusal) → check_asked a b s d ≡ Err r → DrawAllAnswer a b s d out out (Err r)
   all_early r e =
       let l = rw e at (early_asked a b s d) in
       let not : Asked a b s d → ⊥ = λ k. refused_not r (sym e ∙ asked_accepted a b s d k) in
-      record {
-        answer = sym (rw e);
-        buffer = refl;
-        refused = λ z. refl;
-        draws = ((λ z. absurd (numbered r z)), (λ z. absurd (not z.0)));
-        places = λ z. absurd (numbered r z);
-        legal = λ z. absurd (numbered r z);
-        prevents = ((λ z. absurd (omega arith)), (λ z. absurd (not z.0)));
-        witness = λ z. absurd (omega arith);
-      }
+      all_refused r (sym (rw e)) (λ z. not z.0) ((λ z. absurd (omega arith)), (λ z. absurd (not z.0))) (λ z. absurd (omega arith))
 
   module _ (e : check_asked a b s d ≡ Ok tt) where
     pub all_short : length out < length a * (s + 1) → DrawAllAnswer a b s d out out (Err Buffer)
     all_short h =
-        record {
-          answer = sym (rw (e, lt-ltb (length out) (length a * (s + 1)) h));
-          buffer = refl;
-          refused = λ z. refl;
-          draws = ((λ z. absurd (omega arith)), (λ z. absurd (omega (arith, z.1))));
-          places = λ z. absurd (omega arith);
-          legal = λ z. absurd (omega arith);
-          prevents = ((λ z. absurd (omega arith)), (λ z. absurd (omega (arith, z.1))));
-          witness = λ z. absurd (omega arith);
-        }
+        all_refused Buffer (sym (rw (e, lt-ltb (length out) (length a * (s + 1)) h))) (λ z. omega (arith, z.1))
+        ((λ z. absurd (omega arith)), (λ z. absurd (omega (arith, z.1))))
+        (λ z. absurd (omega arith))
 
     module _ (room : length a * (s + 1) ≤ length out) where
       pub all_misfit : (r : Refusal) → FitAnswer a b s d (Err r) → DrawAllAnswer a b s d out out (Err r)
       all_misfit r f =
-          record {
-            answer = rw (e, le-ltb (length out) (length a * (s + 1)) room) (rw e at f.answer);
-            buffer = refl;
-            refused = λ z. refl;
-            draws = ((λ z. absurd (numbered r z)), (λ z. absurd (numbered r (f.fits.1 (z.0, z.2)))));
-            places = λ z. absurd (numbered r z);
-            legal = λ z. absurd (numbered r z);
-            prevents = ((λ z. let p = f.prevents.0 z in (p.0, room, p.1)), (λ z. f.prevents.1 (z.0, z.2)));
-            witness = f.witness;
-          }
+          all_refused r (rw (e, le-ltb (length out) (length a * (s + 1)) room) (rw e at f.answer)) (λ z. numbered r (f.fits.1 (z.0, z.2)))
+          ((λ z. let p = f.prevents.0 z in (p.0, room, p.1)), (λ z. f.prevents.1 (z.0, z.2)))
+          f.witness
 
       pub all_done_lem : (out' : List ℤ) → out' ≡ all_drawn a b s d out → FitAnswer a b s d (Ok tt) → DrawAllAnswer a b s d out out' (Ok tt)
       all_done_lem out' h f =
