@@ -29,9 +29,16 @@ dec_inside o p q = go (dec_lt (length p) (o.bottom + o.pairs)) (dec_lt (length q
 
 -- a line's answer, its pads outside and inside the pools
 pub outside_answer : (o : Order) (p q : List ℤ) → (Inside o p q → ⊥) → answer_of o p q ≡ refusal_numbers NoLine
-outside_answer o p q h = go (outside o.bottom o.pairs (length p)) (outside o.top o.pairs (length q)) (λ e f. h (record { bottom = ltb-false _ _ e; top = ltb-false _ _ f }))
+outside_answer o p q h = go (outside o.bottom o.pairs (length p)) (outside o.top o.pairs (length q)) out
   where
-    go : (u v : Bool) → (u ≡ false → v ≡ false → ⊥) → cond u (refusal_numbers NoLine) (cond v (refusal_numbers NoLine) (plan_of (wished o) (bottom_of o p) (top_of o q))) ≡ refusal_numbers NoLine
+    out : outside o.bottom o.pairs (length p) ≡ false → outside o.top o.pairs (length q) ≡ false → ⊥
+    out e f = h (record { bottom = ltb-false _ _ e; top = ltb-false _ _ f })
+
+    planned : Numbers
+    planned = plan_of (wished o) (bottom_of o p) (top_of o q)
+
+    go : (u v : Bool) → (u ≡ false → v ≡ false → ⊥)
+        → cond u (refusal_numbers NoLine) (cond v (refusal_numbers NoLine) planned) ≡ refusal_numbers NoLine
     go true v n = refl
     go false true n = refl
     go false false n = absurd (n refl refl)

@@ -49,7 +49,10 @@ module _ {t : List Line} {p q : List ℤ} {i : ℕ} {u : List Line} (s : Swept t
       let f = λ (l : Line). answered_of l p q in
       let n : i ≡ length t = e ∙ s.same in
       record {
-        table = ext_get_or no_record u (map f t) (s.same ∙ sym (length-map t f)) (λ k h. (s.done k (omega arith)).answer ∙ sym (get_or-map f t k no_record no_record (omega (arith, s.same))));
+        table =
+            ext_get_or no_record u (map f t) (s.same ∙ sym (length-map t f)) (λ k h.
+            let l : k < length t = omega (arith, s.same) in
+            (s.done k (omega arith)).answer ∙ sym (get_or-map f t k no_record no_record l));
         means = λ k h. s.done k (omega arith);
       }
 
@@ -72,17 +75,25 @@ module _ (p q : List ℤ) where
   order_long (k ∷ ks) t h = rw (line_long t k h) (order_long ks t h)
 
   -- record j after answering line k
-  pub line_record : (t : List Line) (k j : ℕ) → length t ≤ max_lines → j < length t → record_at (line_done t k p q) j ≡ cond (eqb j k) (answered_of (record_at t j) p q) (record_at t j)
+  pub line_record : (t : List Line) (k j : ℕ) → length t ≤ max_lines → j < length t
+      → record_at (line_done t k p q) j ≡ cond (eqb j k) (answered_of (record_at t j) p q) (record_at t j)
   line_record t k j h g = go (ℕ_discrete j k) (dec_lt k (length t))
     where
+      fits : too_long t ≡ false
+      fits = le-ltb max_lines (length t) h
+
+      r : Line
+      r = answered_of (record_at t k) p q
+
       go : Dec (j ≡ k) → Dec (k < length t) → record_at (line_done t k p q) j ≡ cond (eqb j k) (answered_of (record_at t j) p q) (record_at t j)
-      go (yes e) (yes l) = rw (eq-eqb j k e, le-ltb max_lines (length t) h, lt-leb (length t) k l, e) (get_or-set_same t k (answered_of (record_at t k) p q) no_record l)
+      go (yes e) (yes l) = rw (eq-eqb j k e, fits, lt-leb (length t) k l, e) (get_or-set_same t k r no_record l)
       go (yes e) (no l) = absurd (omega arith)
-      go (no e) (yes l) = rw (ne_eqb j k e, le-ltb max_lines (length t) h, lt-leb (length t) k l) (get_or-set_other t k j (answered_of (record_at t k) p q) no_record e)
-      go (no e) (no l) = rw (ne_eqb j k e, le-ltb max_lines (length t) h, le-leb (length t) k (omega arith))
+      go (no e) (yes l) = rw (ne_eqb j k e, fits, lt-leb (length t) k l) (get_or-set_other t k j r no_record e)
+      go (no e) (no l) = rw (ne_eqb j k e, fits, le-leb (length t) k (omega arith))
 
   -- an answer doesn't depend on the answer that stood there before, so answering a record twice is answering it once
-  twice_once : (l : Line) (u v : Bool) → cond v (answered_of (cond u (answered_of l p q) l) p q) (cond u (answered_of l p q) l) ≡ cond (cond u true v) (answered_of l p q) l
+  twice_once : (l : Line) (u v : Bool)
+      → cond v (answered_of (cond u (answered_of l p q) l) p q) (cond u (answered_of l p q) l) ≡ cond (cond u true v) (answered_of l p q) l
   twice_once l true true = refl
   twice_once l true false = refl
   twice_once l false true = refl
@@ -92,11 +103,13 @@ module _ (p q : List ℤ) where
   order_size [] t = refl
   order_size (k ∷ ks) t = order_size ks (line_done t k p q) ∙ line_size t k
 
-  pub order_record : (ks : List ℕ) (t : List Line) (j : ℕ) → length t ≤ max_lines → j < length t → record_at (in_order ks t p q) j ≡ cond (among j ks) (answered_of (record_at t j) p q) (record_at t j)
+  pub order_record : (ks : List ℕ) (t : List Line) (j : ℕ) → length t ≤ max_lines → j < length t
+      → record_at (in_order ks t p q) j ≡ cond (among j ks) (answered_of (record_at t j) p q) (record_at t j)
   order_record [] t j h g = refl
   order_record (k ∷ ks) t j h g =
       let n = line_size t k in
-      order_record ks (line_done t k p q) j (omega arith) (omega arith) ∙ rw (line_record t k j h g) (twice_once (record_at t j) (eqb j k) (among j ks))
+      order_record ks (line_done t k p q) j (omega arith) (omega arith)
+      ∙ rw (line_record t k j h g) (twice_once (record_at t j) (eqb j k) (among j ks))
 
   -- two orders that name the same lines of the table leave the same table
   pub same_lines : (ks ls : List ℕ) (t : List Line) → ((j : ℕ) → j < length t → among j ks ≡ among j ls) → in_order ks t p q ≡ in_order ls t p q
@@ -176,5 +189,7 @@ module _ (t t' : List Line) (p q p' q' : List ℤ) (k k' : ℕ) (h : k < length 
 
   pub own_among_all : (record_at (all_done t p q) k).answer ≡ (record_at (all_done t' p' q') k').answer
   own_among_all =
-      rw (le-ltb max_lines (length t) few, le-ltb max_lines (length t') few', get_or-map (λ l. answered_of l p q) t k no_record no_record h, get_or-map (λ l. answered_of l p' q') t' k' no_record no_record h')
+      let r = get_or-map (λ l. answered_of l p q) t k no_record no_record h in
+      let r' = get_or-map (λ l. answered_of l p' q') t' k' no_record no_record h' in
+      rw (le-ltb max_lines (length t) few, le-ltb max_lines (length t') few', r, r')
       (own_answer (record_at t k).order p q (record_at t' k').order p' q' same)

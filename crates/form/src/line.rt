@@ -40,10 +40,10 @@ fn answer(line: Line, pool_a: &[i32], pool_b: &[i32]) -> Numbers
     ensures { LineAnswer line pool_a.now pool_b.now (with_answer line result) }
 {
     let order = line.order;
-    let Some(a) = pads(pool_a, order.bottom, order.pairs) else {
-        return Numbers::from(Refusal::Line);
-    };
-    let Some(b) = pads(pool_b, order.top, order.pairs) else {
+    let (Some(a), Some(b)) = (
+        pads(pool_a, order.bottom, order.pairs),
+        pads(pool_b, order.top, order.pairs),
+    ) else {
         return Numbers::from(Refusal::Line);
     };
     plan(wish_of(order.separation, order.offset), a, b)

@@ -1,5 +1,5 @@
-// Floor 8: the two calls over a form's table, for C and Rust. A slice is a pointer and a count of elements; a call's own refusal comes back as its number, or 0.
-// Each promises what the call of `form` that it hands on promises.
+// Floor 8: the two calls over a form's table, for C and Rust. A slice is a pointer and a count of elements; a call's own refusal comes back as its number,
+// 0 for none. Each promises what the call of `form` that it hands on promises.
 #![tactic(auto)]
 
 ghost use Rattle.form.specs.Table.{OneAnswered, AllAnswered};

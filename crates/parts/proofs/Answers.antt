@@ -40,7 +40,8 @@ module _ (a b : List ℤ) (stays : List ℕ) (s : ℕ) (d : ℤ) where
   -- THE CHECK lets through all that is accepted; that it lets nothing else through, its part keeps
   stays_accepted : AskedPart a b stays s d → stays_fault a b stays ≡ Ok tt
   stays_accepted k =
-      rw (eq-eqb (length a) (length b) k.whole.rows.equal, eq-eqb (length a) (length stays) k.bytes, ne_eqb (length (kept stays)) 0 (λ z. omega (arith, k.some)))
+      let some = ne_eqb (length (kept stays)) 0 (λ z. omega (arith, k.some)) in
+      rw (eq-eqb (length a) (length b) k.whole.rows.equal, eq-eqb (length a) (length stays) k.bytes, some)
 
   part_accepted : AskedPart a b stays s d → check_part a b stays s d ≡ Ok tt
   part_accepted k = rw (stays_accepted k) (asked_accepted a b s d k.whole)

@@ -88,7 +88,8 @@ pub record Next (stays : List ℕ) (s : ℕ) (table : List ℤ) (i : ℕ) (x : L
   pub wire : x ≡ columns (λ t. pad table (i * (s + 1) + t)) (s + 1)
 
 module _ {stays : List ℕ} {s : ℕ} {table : List ℤ} {i : ℕ} {rest : List ℤ} {left : List ℕ} (c : Coming stays s table i rest left) where
-  pub next : {rest' : List ℤ} {left' : List ℕ} (x : List ℤ) (b : ℕ) → rest ≡ x ++ rest' → length x ≡ s + 1 → left ≡ b ∷ left' → Next stays s table i x b × Coming stays s table (i + 1) rest' left'
+  pub next : {rest' : List ℤ} {left' : List ℕ} (x : List ℤ) (b : ℕ) → rest ≡ x ++ rest' → length x ≡ s + 1 → left ≡ b ∷ left'
+      → Next stays s table i x b × Coming stays s table (i + 1) rest' left'
   next {rest'} {left'} x b e l f = go (dec_lt i (length stays))
     where
       cut : drop (i * (s + 1)) table ≡ x ++ rest'
@@ -100,7 +101,11 @@ module _ {stays : List ℕ} {s : ℕ} {table : List ℤ} {i : ℕ} {rest : List 
           let k : i * (s + 1) + (s + 1) ≡ (i + 1) * (s + 1) = rw (add-one i) (omega (arith, suc-mul i (s + 1))) in (
             record { some = h; byte = cc; wire = rw l at (cut_columns table x rest' (i * (s + 1)) cut) },
             record {
-              wires_left = sym (drop_at x rest' (s + 1) l) ∙ ap (drop (s + 1)) (sym cut) ∙ drop-drop (s + 1) (i * (s + 1)) table ∙ ap (λ (m : ℕ). drop m table) k;
+              wires_left =
+                  sym (drop_at x rest' (s + 1) l)
+                  ∙ ap (drop (s + 1)) (sym cut)
+                  ∙ drop-drop (s + 1) (i * (s + 1)) table
+                  ∙ ap (λ (m : ℕ). drop m table) k;
               bytes_left = rw (add-one i) (cc);
               most = omega arith;
             },
@@ -113,10 +118,10 @@ module _ {stays : List ℕ} {s : ℕ} {table : List ℤ} {i : ℕ} {rest : List 
     where
       go : Dec (i < length stays) → i ≡ length stays
       go (yes h) =
-          ⊎_elim
-          (λ l. absurd (omega (arith, l, place_in (length stays) s i s h (omega arith), length-drop (i * (s + 1)) table, ap (λ (xs : List ℤ). length xs) c.wires_left)))
-          (λ l. absurd (omega (arith, l, h, length-drop i stays, ap (λ (xs : List ℕ). length xs) c.bytes_left)))
-          e
+          let k = place_in (length stays) s i s h (omega arith) in
+          let n : length rest ≡ length table - i * (s + 1) = rw c.wires_left (length-drop (i * (s + 1)) table) in
+          let m : length left ≡ length stays - i = rw c.bytes_left (length-drop i stays) in
+          ⊎_elim (λ l. absurd (omega (arith, l, k))) (λ l. absurd (omega (arith, l))) e
       go (no h) = omega (arith, c.most)
 
 -- THE WIRES THAT STAY of the first i stand in what was out₀, and `at` is the place after them
@@ -142,7 +147,9 @@ module _ {stays : List ℕ} {s : ℕ} {table out₀ : List ℤ} {at i : ℕ} {ou
     j = length (kept_among stays i)
 
     pub held_room : at + (s + 1) ≤ length out₀
-    held_room = let l : j < length (kept stays) = kept_room stays (length stays) i lt byte in omega (arith, h.place, place_in (length (kept stays)) s j s l (omega arith))
+    held_room =
+        let l : j < length (kept stays) = kept_room stays (length stays) i lt byte in
+        omega (arith, h.place, place_in (length (kept stays)) s j s l (omega arith))
 
     -- what is copied is the wire of that number
     copied : columns (λ t. pad table (i * (s + 1) + t)) (s + 1) ≡ columns (wire_kept stays s table j) (s + 1)

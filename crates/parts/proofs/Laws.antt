@@ -55,7 +55,8 @@ best_under {a} {b} s p z = not_above (Somewhere a b) _ s (λ t h w. p.none z t h
 
 -- PAIRS DROPPED: the question about what remains is accepted too, and its answer isn't greater
 module _ {a b : List ℤ} {kept : List ℕ} (c : Choice (length a) kept) (some : 1 ≤ length kept) where
-  pub least_dropped : {d : ℤ} {r r' : Result Least Refusal} → LeastAnswer a b d r → LeastAnswer (part_of kept a) (part_of kept b) d r' → (least_numbers r).refusal ≡ 0
+  pub least_dropped : {d : ℤ} {r r' : Result Least Refusal}
+      → LeastAnswer a b d r → LeastAnswer (part_of kept a) (part_of kept b) d r' → (least_numbers r).refusal ≡ 0
       → ((least_numbers r').refusal ≡ 0) × ((least_numbers r').separation ≤ (least_numbers r).separation)
   least_dropped {d} p q z =
       let z' = q.accepts.1 (part_shift c some (p.accepts.0 z)) in

@@ -57,7 +57,8 @@ part_choice {stays = stays} k = rw k.bytes (kept_choice stays)
 pub part_asked : {a b : List ℤ} {stays : List ℕ} {s : ℕ} {d : ℤ} → AskedPart a b stays s d → Asked (row_kept stays a) (row_kept stays b) s d
 part_asked k = record { rows = part_rows k.whole.rows (part_choice k) k.some; tracks = k.whole.tracks; offset = k.whole.offset }
 
-pub part_shift : {a b : List ℤ} {ks : List ℕ} {d : ℤ} → Choice (length a) ks → 1 ≤ length ks → AcceptedShift a b d → AcceptedShift (part_of ks a) (part_of ks b) d
+pub part_shift : {a b : List ℤ} {ks : List ℕ} {d : ℤ} → Choice (length a) ks → 1 ≤ length ks → AcceptedShift a b d
+    → AcceptedShift (part_of ks a) (part_of ks b) d
 part_shift c some k = record { rows = part_rows k.rows c some; offset = k.offset }
 
 -- without the pad that was added last

@@ -21,7 +21,8 @@ pub(crate) fn keep_pads<'a>(row: &[i32], stays: &[u8], out: &'a mut [i32]) -> &'
 
 // The wires of a table that stay, wire after wire, each with its s + 1 columns.
 pub(crate) fn keep_wires(part: Part<'_>, table: &[i32], out: &mut [i32])
-    requires { (length part.stays.now * (part.question.separation + 1) ≤ length table.now) × (places_kept part.stays.now part.question.separation ≤ length out.old) }
+    requires { (length part.stays.now * (part.question.separation + 1) ≤ length table.now)
+        × (places_kept part.stays.now part.question.separation ≤ length out.old) }
     ensures { out.new ≡ part_written part.entry.stays.now part.entry.question.separation table.now out.old }
 {
     let wire_places = part.question.separation + 1;

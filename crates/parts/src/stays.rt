@@ -38,7 +38,8 @@ impl<'a> Part<'a> {
         s: usize,
         d: i32,
     ) -> Result<Part<'a>, Refusal>
-        ensures ok { IfOk result (λ p. (p.question.rows.bottom.now ≡ a.now) × (p.question.rows.top.now ≡ b.now) × (p.stays.now ≡ stays.now) × (p.question.separation ≡ s) × (p.question.offset ≡ d)) }
+        ensures ok { IfOk result (λ p. (p.question.rows.bottom.now ≡ a.now) × (p.question.rows.top.now ≡ b.now)
+            × (p.stays.now ≡ stays.now) × (p.question.separation ≡ s) × (p.question.offset ≡ d)) }
         ensures err { IfErr result (λ r. check_part a.now b.now stays.now s d ≡ Err r) }
     {
         if a.len() != b.len() || a.len() != stays.len() {

@@ -92,13 +92,18 @@ module _ (a b : List ℤ) where
   known_tracks s = known_after (check_rows a b) known_rows (known_pick _ (refused NoTracks (omega arith) (omega arith)) answered)
 
   pub known_fit : (s : ℕ) (d : ℤ) → Known a b (fit_of a b s d)
-  known_fit s d = known_after (check_asked a b s d) (known_after (check_tracks a b s) (known_tracks s) (known_offset d)) (known_misfit (misfit_of a b (rule_at s) d))
+  known_fit s d =
+      known_after (check_asked a b s d)
+      (known_after (check_tracks a b s) (known_tracks s) (known_offset d))
+      (known_misfit (misfit_of a b (rule_at s) d))
 
   pub known_least : (d : ℤ) → Known a b (least_answer a b d)
   known_least d = known_after (check_offset a b d) (known_after (check_rows a b) known_rows (known_offset d)) answered
 
   pub known_range : (s : ℕ) → Known a b (offsets_answer a b s)
-  known_range s = known_after (check_tracks a b s) (known_tracks s) (known_cond _ (known_cond _ (refused (NoOffset _ _) (omega arith) (omega arith)) answered) answered)
+  known_range s =
+      known_after (check_tracks a b s) (known_tracks s)
+      (known_cond _ (known_cond _ (refused (NoOffset _ _) (omega arith) (omega arith)) answered) answered)
 
   pub known_best : (before : List ℕ) → Known a b (best_answer a b before)
   known_best before = known_after (check_rows a b) known_rows (known_room _ (planned_of a b))

@@ -16,7 +16,7 @@ use Rattle.wiring.specs.Wiring.{HasWiring}
 use Rattle.wiring.specs.Fit.{lean_of, half}
 use Rattle.wiring.specs.Tracks.{rule_at}
 use Rattle.wiring.proofs.Serves.{rule_under, tracks_some}
-use Rattle.jumper.specs.Limits.{max_ladder, AcceptedOffset}
+use Rattle.jumper.specs.Limits.{max_ladder, max_tracks, AcceptedOffset}
 use Rattle.jumper.specs.Refusals.{refusal_numbers}
 use Rattle.jumper.specs.Rows.{AcceptedRows, Checked, checked_numbers, unless_refused, or_else, check_rows}
 use Rattle.jumper.specs.Asked.{check_tracks, check_offset, check_asked, AcceptedTracks}
@@ -39,7 +39,7 @@ use Rattle.best.specs.Best.{Best, best_numbers, best_answer, ladder_of, planned_
 use Rattle.best.proofs.Levels.{one_level, more_levels}
 use Rattle.best.proofs.Bests.{ladder_length}
 use Rattle.plan.specs.Plan.{fit_plan, least_plan, range_plan, plan_of, Asks, Meetable, Unfit, Offsetless, Names, PlanAnswer}
-use Rattle.plan.proofs.Known.{Known, known_fit, known_least, known_range, known_best}
+use Rattle.plan.proofs.Known.{refused_by, Known, known_fit, known_least, known_range, known_best}
 use Rattle.plan.specs.declared.wish.Wish.{Wish}
 use Rattle.plan.specs.declared.wish.Wish.TheVariants.{Fit, Least as Leastwise, Range, Best as Bestwise}
 
@@ -47,45 +47,49 @@ use Rattle.plan.specs.declared.wish.Wish.TheVariants.{Fit, Least as Leastwise, R
 never_above : (n k : ℕ) → n < k → (n ≡ k) ↔ ⊥
 never_above n k h = ((λ e. omega arith), (λ z. absurd z))
 
--- WITH WHICH NUMBERS A WISH IS REFUSED. A least separation there always is: its refusals are those of the checks
-least_early : (a b : List ℤ) (d : ℤ) (r : Refusal) → Err r ≡ least_answer a b d → (refusal_numbers r).refusal ≤ 7
-least_early a b d r e = go (check_offset a b d) (early_shift a b d) _ (ap (λ (l : Result Least Refusal). (least_numbers l).refusal) e)
-  where
-    go : (c : Checked) → Early 7 c → (l : Least) → (refusal_numbers r).refusal ≡ (least_numbers (unless_refused c Err (Ok l))).refusal → (refusal_numbers r).refusal ≤ 7
-    go (Err q) h l e = omega arith
-    go (Ok u) h l e = omega arith
+-- WITH WHICH NUMBERS A WISH IS REFUSED: with those of the check that comes first, or of what comes after it
+early_after : {A : Type 0} (m n : ℕ) (c : Checked) (x : Result A Refusal) → m ≤ n → Early m c → refused_by x ≤ n → refused_by (unless_refused c Err x) ≤ n
+early_after m n (Ok u) x l h k = k
+early_after m n (Err r) x l h k = omega arith
+
+-- a least separation there always is: its refusals are those of the checks
+least_early : (a b : List ℤ) (d : ℤ) → refused_by (least_answer a b d) ≤ 7
+least_early a b d = early_after 7 7 (check_offset a b d) _ (omega arith) (early_shift a b d) (omega arith)
 
 -- and one of 0 has no witness
-least_straight : (a b : List ℤ) (d : ℤ) (l : Least) → Ok l ≡ least_answer a b d → l.separation ≡ 0 → (pair_of l.witness ≡ 0) × (side_of l.witness ≡ 0)
+abbrev Straight : Least → Type 0
+Straight l = (pair_of l.witness ≡ 0) × (side_of l.witness ≡ 0)
+
+least_straight : (a b : List ℤ) (d : ℤ) (l : Least) → Ok l ≡ least_answer a b d → l.separation ≡ 0 → Straight l
 least_straight a b d l e z =
     let s = least_of (lean_of a) (lean_of b) d (length a) in
     go (check_offset a b d) s (misfit_of a b (s - 1) d) e
   where
-    go : (c : Checked) (s : ℕ) (m : Option Misfit) → Ok l ≡ unless_refused c Err (Ok (with_witness s m)) → (pair_of l.witness ≡ 0) × (side_of l.witness ≡ 0)
+    go : (c : Checked) (s : ℕ) (m : Option Misfit) → Ok l ≡ unless_refused c Err (Ok (with_witness s m)) → Straight l
     go (Err q) s m e = cc
     go (Ok u) zero m e = let f : l ≡ with_witness zero m = cc in rw f (refl, refl)
-    go (Ok u) (suc s) m e = let f : l ≡ with_witness (suc s) m = cc in absurd (omega (arith, ap (λ (k : Least). k.separation) f, tracks_some (suc s) (omega arith)))
+    go (Ok u) (suc s) m e =
+        let f : l ≡ with_witness (suc s) m = cc in
+        absurd (omega (arith, ap (λ (k : Least). k.separation) f, tracks_some (suc s) (omega arith)))
 
 -- and so there is a best one: its refusals are those of the rows, and BUFFER
-best_early : (a b : List ℤ) (before : List ℕ) (r : Refusal) → Err r ≡ best_answer a b before → (refusal_numbers r).refusal ≤ 9
-best_early a b before r e = go (check_rows a b) (early_rows a b) (ltb (length before) (length (ladder_of a b))) (ap (λ (q : Best). (best_numbers q).refusal) e)
+best_early : (a b : List ℤ) (before : List ℕ) → refused_by (best_answer a b before) ≤ 9
+best_early a b before = early_after 5 9 (check_rows a b) _ (omega arith) (early_rows a b) (go (ltb (length before) (length (ladder_of a b))))
   where
-    go : (c : Checked) → Early 5 c → (t : Bool) → (refusal_numbers r).refusal ≡ (best_numbers (unless_refused c Err (room_or t (planned_of a b)))).refusal → (refusal_numbers r).refusal ≤ 9
-    go (Err q) l t e = omega arith
-    go (Ok u) l true e = omega arith
-    go (Ok u) l false e = omega arith
+    go : (t : Bool) → refused_by (room_or t (planned_of a b)) ≤ 9
+    go true = omega arith
+    go false = omega arith
 
 -- a separation and an offset are refused with at most 10; a separation alone never with 10
-fit_early : (a b : List ℤ) (s : ℕ) (d : ℤ) (r : Refusal) → Err r ≡ fit_of a b s d → (refusal_numbers r).refusal ≤ 10
-fit_early a b s d r e = go (check_asked a b s d) (early_asked a b s d) (misfit_of a b (rule_at s) d) (ap (λ (c : Checked). (checked_numbers c).refusal) e)
+fit_early : (a b : List ℤ) (s : ℕ) (d : ℤ) → refused_by (fit_of a b s d) ≤ 10
+fit_early a b s d = early_after 7 10 (check_asked a b s d) _ (omega arith) (early_asked a b s d) (go (misfit_of a b (rule_at s) d))
   where
-    go : (c : Checked) → Early 7 c → (m : Option Misfit) → (refusal_numbers r).refusal ≡ (checked_numbers (or_else c (no_fit m))).refusal → (refusal_numbers r).refusal ≤ 10
-    go (Err q) l m e = omega arith
-    go (Ok u) l None e = omega arith
-    go (Ok u) l (Some m) e = omega arith
+    go : (m : Option Misfit) → refused_by (no_fit m) ≤ 10
+    go None = omega arith
+    go (Some m) = omega arith
 
-range_early : (a b : List ℤ) (s : ℕ) (r : Refusal) → Err r ≡ offsets_answer a b s → (refusal_numbers r).refusal ≡ 10 → ⊥
-range_early a b s r e z = go (check_tracks a b s) (early_tracks a b s) (ltb (rule_at s) (length a)) (is_empty o) (ap (λ (q : Result OffsetRange Refusal). (offsets_numbers q).refusal) e)
+range_early : (a b : List ℤ) (s : ℕ) → refused_by (offsets_answer a b s) ≡ 10 → ⊥
+range_early a b s = go (check_tracks a b s) (early_tracks a b s) (ltb (rule_at s) (length a)) (is_empty o)
   where
     o : OffsetRange
     o = range_of (length a) (lean_of a) (lean_of b) (rule_at s)
@@ -93,26 +97,31 @@ range_early a b s r e z = go (check_tracks a b s) (early_tracks a b s) (ltb (rul
     places : Refusal
     places = NoOffset (lowest_at (length a) (lean_of a) (lean_of b) (rule_at s)) (highest_at (length a) (lean_of a) (lean_of b) (rule_at s))
 
-    go : (c : Checked) → Early 6 c → (t u : Bool)
-        → (refusal_numbers r).refusal ≡ (offsets_numbers (unless_refused c Err (cond t (cond u (Err places) (Ok o)) (Ok whole_range)))).refusal → ⊥
-    go (Err q) l t u e = omega arith
-    go (Ok u) l true true e = omega arith
-    go (Ok u) l true false e = omega arith
-    go (Ok v) l false u e = omega arith
+    go : (c : Checked) → Early 6 c → (t u : Bool) → refused_by (unless_refused c Err (cond t (cond u (Err places) (Ok o)) (Ok whole_range))) ≡ 10 → ⊥
+    go (Err q) l t u z = omega arith
+    go (Ok v) l true true z = omega arith
+    go (Ok v) l true false z = omega arith
+    go (Ok v) l false u z = omega arith
 
 -- refused although the separation is accepted: no offset fits
 range_never : (a b : List ℤ) (s : ℕ) (r : Refusal) → Err r ≡ offsets_answer a b s → AcceptedTracks a b s → (refusal_numbers r).refusal ≡ 11
 range_never a b s r e t = go (dec_lt (rule_at s) (length a))
   where
-    number : (q : Result OffsetRange Refusal) → range_found (length a) (lean_of a) (lean_of b) (rule_at s) ≡ q → (refusal_numbers r).refusal ≡ (offsets_numbers q).refusal
-    number q f = ap (λ (o : Result OffsetRange Refusal). (offsets_numbers o).refusal) (rw (tracks_accepted a b s t) at e ∙ f)
+    found : Result OffsetRange Refusal
+    found = range_found (length a) (lean_of a) (lean_of b) (rule_at s)
 
-    tested : rule_at s < length a → (u : Bool) → lt_z (range_of (length a) (lean_of a) (lean_of b) (rule_at s)).high (range_of (length a) (lean_of a) (lean_of b) (rule_at s)).low ≡ u → (refusal_numbers r).refusal ≡ 11
+    o : OffsetRange
+    o = range_of (length a) (lean_of a) (lean_of b) (rule_at s)
+
+    number : (q : Result OffsetRange Refusal) → found ≡ q → (refusal_numbers r).refusal ≡ refused_by q
+    number q f = ap (λ (c : Result OffsetRange Refusal). refused_by c) (rw (tracks_accepted a b s t) at e ∙ f)
+
+    tested : rule_at s < length a → (u : Bool) → lt_z o.high o.low ≡ u → (refusal_numbers r).refusal ≡ 11
     tested l true f = number _ (empty_range (length a) (lean_of a) (lean_of b) (rule_at s) l f)
     tested l false f = absurd (numbered r (number _ (some_range (length a) (lean_of a) (lean_of b) (rule_at s) l f)))
 
     go : Dec (rule_at s < length a) → (refusal_numbers r).refusal ≡ 11
-    go (yes l) = tested l (lt_z (range_of (length a) (lean_of a) (lean_of b) (rule_at s)).high (range_of (length a) (lean_of a) (lean_of b) (rule_at s)).low) refl
+    go (yes l) = tested l (lt_z o.high o.low) refl
     go (no l) = absurd (numbered r (number _ (past_all (length a) (lean_of a) (lean_of b) (rule_at s) (omega arith))))
 
 -- twice as many pairs have one level more, so 2,048 pairs have 12
@@ -133,7 +142,8 @@ ladder_room a b h = omega (arith, ladder_length (length a) (lean_of a) (lean_of 
 
 module _ (a b : List ℤ) where
   -- a refusal: what is asked isn't accepted, or no wiring meets it
-  refused_plan : {A : Type 0} (w : Wish) (r : Refusal) → refusal_numbers r ≡ plan_of w a b → (Asks w a b → Meetable w a b → (refusal_numbers r).refusal ≡ 0)
+  refused_plan : {A : Type 0} (w : Wish) (r : Refusal) → refusal_numbers r ≡ plan_of w a b
+      → (Asks w a b → Meetable w a b → (refusal_numbers r).refusal ≡ 0)
       → ((refusal_numbers r).refusal ≡ 10) ↔ Unfit w a b → ((refusal_numbers r).refusal ≡ 11) ↔ Offsetless w a b → Names w a b (refusal_numbers r)
       → Known a b {A = A} (Err r) → PlanAnswer w a b (refusal_numbers r)
   refused_plan w r e never p o n k =
@@ -169,14 +179,14 @@ module _ (a b : List ℤ) where
       }
   fit_plan_lem s d (Err r) h =
       refused_plan (Fit s d) r (ap (fit_plan s d) h.answer) (λ k w. h.fits.1 (k, w)) h.prevents
-      (never_above _ 11 (omega (arith, fit_early a b s d r h.answer))) h.witness
+      (never_above _ 11 (omega (arith, rw (← h.answer) at (fit_early a b s d)))) h.witness
       (rw (← h.answer) at (known_fit a b s d))
 
   pub least_plan_lem : (d : ℤ) (l : Result Least Refusal) → LeastAnswer a b d l → PlanAnswer (Leastwise d) a b (least_plan d l)
   least_plan_lem d (Err r) h =
       refused_plan (Leastwise d) r (ap (least_plan d) h.answer) (λ k w. h.accepts.1 k)
-      (never_above _ 10 (omega (arith, least_early a b d r h.answer)))
-      (never_above _ 11 (omega (arith, least_early a b d r h.answer))) tt
+      (never_above _ 10 (omega (arith, rw (← h.answer) at (least_early a b d))))
+      (never_above _ 11 (omega (arith, rw (← h.answer) at (least_early a b d)))) tt
       (rw (← h.answer) at (known_least a b d))
   least_plan_lem d (Ok l) h =
       let g = h.accepts.0 refl in
@@ -185,7 +195,15 @@ module _ (a b : List ℤ) where
       record {
         answer = ap (least_plan d) h.answer;
         accepts = ((λ z. (g, tt)), (λ w. refl));
-        means = λ z. record { named = refl; within = within; fits = fits; least = h.least refl; witness = h.witness refl; straight = least_straight a b d l h.answer };
+        means = λ z.
+            record {
+              named = refl;
+              within = within;
+              fits = fits;
+              least = h.least refl;
+              witness = h.witness refl;
+              straight = least_straight a b d l h.answer;
+            };
         prevents = never_above 0 10 (omega arith);
         none = never_above 0 11 (omega arith);
         names = tt;
@@ -199,7 +217,7 @@ module _ (a b : List ℤ) where
   pub range_plan_lem : (s : ℕ) (q : Result OffsetRange Refusal) → OffsetsAnswer a b s q → PlanAnswer (Range s) a b (range_plan s q)
   range_plan_lem s (Err r) h =
       refused_plan (Range s) r (ap (range_plan s) h.answer) (λ k w. absurd ((h.none.0 (range_never a b s r h.answer k)).1 w.0 w.1))
-      ((λ z. range_early a b s r h.answer z), (λ z. absurd z)) h.none h.places
+      ((λ z. (rw (← h.answer) at (range_early a b s)) z), (λ z. absurd z)) h.none h.places
       (rw (← h.answer) at (known_range a b s))
   range_plan_lem s (Ok r) h =
       record {
@@ -228,27 +246,41 @@ module _ (a b : List ℤ) where
 
       accepted : Dec (rule_at s < length a) → AcceptedOffset r.low
       accepted (yes l) = wired_accepted k.rows s r.low l fits
-      accepted (no l) = let e = (h.every refl (omega arith)).0 in rw (ap (λ (o : OffsetRange). o.low) e) (record { low = omega arithℤ; high = omega arithℤ })
+      accepted (no l) =
+          let e = (h.every refl (omega arith)).0 in
+          rw (ap (λ (o : OffsetRange). o.low) e) (record { low = omega arithℤ; high = omega arithℤ })
 
-  pub best_plan_lem : (before after : List ℕ) (q : Best) → before ≡ replicate max_ladder 0 → BestAnswer a b before after q → PlanAnswer Bestwise a b (best_numbers q)
+  pub best_plan_lem : (before after : List ℕ) (q : Best) → before ≡ replicate max_ladder 0 → BestAnswer a b before after q
+      → PlanAnswer Bestwise a b (best_numbers q)
   best_plan_lem before after (Err r) e h =
-      refused_plan Bestwise r (ap best_numbers h.answer ∙ ap (λ (l : List ℕ). best_numbers (best_answer a b l)) e) (λ k w. h.accepts.1 (k, rw e (ladder_room a b k)))
-      (never_above _ 10 (omega (arith, best_early a b before r h.answer)))
-      (never_above _ 11 (omega (arith, best_early a b before r h.answer))) tt
+      refused_plan Bestwise r (ap best_numbers h.answer ∙ ap (λ (l : List ℕ). best_numbers (best_answer a b l)) e)
+      (λ k w. h.accepts.1 (k, rw e (ladder_room a b k)))
+      (never_above _ 10 (omega (arith, rw (← h.answer) at (best_early a b before))))
+      (never_above _ 11 (omega (arith, rw (← h.answer) at (best_early a b before)))) tt
       (rw (← h.answer) at (known_best a b before))
   best_plan_lem before after (Ok p) e h =
       let k = (h.accepts.0 refl).0 in
       let w = (h.exactly refl p.range.low).1 (record { low = omega arithℤ; high = h.some refl }) in
+      let tracks : p.separation ≤ max_tracks = omega (arith, rule_under (length a) p.separation (h.below refl), tracks_most (length a) k.few) in
       record {
         answer = ap best_numbers h.answer ∙ ap (λ (l : List ℕ). best_numbers (best_answer a b l)) e;
         accepts = ((λ z. (k, tt)), (λ w. refl));
-        means = λ z. record { named = refl; some = h.some refl; exactly = h.exactly refl; none = h.none refl; within = h.within refl; fixed = h.fixed refl; cheap = h.cheap refl };
+        means = λ z.
+            record {
+              named = refl;
+              some = h.some refl;
+              exactly = h.exactly refl;
+              none = h.none refl;
+              within = h.within refl;
+              fixed = h.fixed refl;
+              cheap = h.cheap refl;
+            };
         prevents = never_above 0 10 (omega arith);
         none = never_above 0 11 (omega arith);
         names = tt;
         numbered = λ z. absurd (z refl);
         rows = λ z. k;
-        drawable = λ z. (record { rows = k; tracks = omega (arith, rule_under (length a) p.separation (h.below refl), tracks_most (length a) k.few); offset = wired_accepted k p.separation p.range.low (h.below refl) w }, w);
+        drawable = λ z. (record { rows = k; tracks = tracks; offset = wired_accepted k p.separation p.range.low (h.below refl) w }, w);
         known = omega arith;
         equal = λ e z. omega arith;
       }

@@ -9,8 +9,8 @@ use fit::offsets::range_at;
 use jumper::limits::MAX_LADDER;
 use jumper::refusal::Numbers;
 
-// What the wish names itself, a separation or an offset, is told with what was found. The ladder isn't asked for: it goes into a buffer of this call's own, which
-// has room for the longest. (A Result of numbers, by `?`, would be copied once more, which a short line's answer feels.)
+// What the wish names itself, a separation or an offset, is told with what was found. The ladder isn't asked for: it goes into a buffer of this call's own,
+// which has room for the longest. The arms hand the numbers out as they make them: a Result of numbers, for `?`, is copied twice, and a short line feels it.
 pub fn plan(wish: Wish, a: &[i32], b: &[i32]) -> Numbers
     ensures { PlanAnswer wish a.now b.now result }
 {

@@ -6,4 +6,5 @@ use Rattle.form.proofs.line.answer.Goals as goal
 pub returns : goal.returns
 returns c =
     let e = to_z-of_z w32 c.args.line.order.offset (search rules) in
-    line_planned _ _ _ _ _ _ _ c.in-Some.ensures c.in-Some-pads.ensures (rw e at c.wish_of.ensures) c.plan.ensures
+    let found = c.in-Some-Some in
+    line_planned _ _ _ _ _ _ _ found.ensures found.ensures' (rw e at c.wish_of.ensures) c.plan.ensures

@@ -9,7 +9,8 @@ use Rattle.parts.proofs.keep.keep_wires.Goals.{In-Some, Then-stay-ne0}
 -- this turn's wire and byte, and what comes after them
 turn : (c : In-Some)
     → Next c.args.part.stays.now c.args.part.question.separation c.args.table.now (length c.loop-wire.yielded) c.in-Some.wire.now c.in-Some.field-0-1.now
-    × Coming c.args.part.stays.now c.args.part.question.separation c.args.table.now (length c.loop-wire.yielded + 1) (chunks_exact_rest (zip_first c.next.new.self)) (iter_rest (zip_second c.next.new.self))
+    × Coming c.args.part.stays.now c.args.part.question.separation c.args.table.now (length c.loop-wire.yielded + 1)
+    (chunks_exact_rest (zip_first c.next.new.self)) (iter_rest (zip_second c.next.new.self))
 turn c =
     let z = c.in-Some.ensures.steps in
     next c.loop-wire.invariant.coming _ _ z.0.1.0 (z.0.1.1 ∙ c.loop-wire.invariant.size) z.1

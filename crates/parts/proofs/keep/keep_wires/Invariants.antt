@@ -9,6 +9,7 @@ abbrev pub invariant-loop-wire : goal.invariant-loop-wire
 invariant-loop-wire l =
     record {
       size : chunks_exact_size (zip_first l.wire-iterator) ≡ l.part.question.separation + 1;
-      coming : Coming l.part.stays.now l.part.question.separation l.table (length l.yielded) (chunks_exact_rest (zip_first l.wire-iterator)) (iter_rest (zip_second l.wire-iterator));
+      coming : Coming l.part.stays.now l.part.question.separation l.table (length l.yielded)
+          (chunks_exact_rest (zip_first l.wire-iterator)) (iter_rest (zip_second l.wire-iterator));
       held : Held l.part.stays.now l.part.question.separation l.table l.initial.out l.place (length l.yielded) l.out;
     }

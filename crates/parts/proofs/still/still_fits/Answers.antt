@@ -5,7 +5,9 @@ use Rattle.parts.proofs.Answers.{asked_part, still_refused, still_found}
 use Rattle.parts.proofs.still.still_fits.Goals as goal
 
 pub returns-in_err-check : goal.returns-in_err-check
-returns-in_err-check c = rw (passed_on _ c.from_residual.ensures.1) (still_refused _ _ _ _ _ _ (rw (to_z-of_z w32 c.args.d c.ranges.d) at c.in_err-check.ensures.err))
+returns-in_err-check c =
+    let e = to_z-of_z w32 c.args.d c.ranges.d in
+    rw (passed_on _ c.from_residual.ensures.1) (still_refused _ _ _ _ _ _ (rw e at c.in_err-check.ensures.err))
 
 pub returns : goal.returns
 returns c =
