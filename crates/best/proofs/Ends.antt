@@ -27,10 +27,10 @@ smaller_step f i old new r h p q e =
 
 module _ (a b : List ℤ) (p gap : ℕ) where
   -- before the first round
-  pub low_first : pad a 0 -ℤ pad b gap ≡ largest (low_read a b p gap) 0
+  pub low_first : pad a 0 -ℤ pad b gap ≡ largest (low_read a b 0 p gap) 0
   unfolding first_by
   low_first = rw (mul-zero p, zero-add gap)
 
-  pub high_first : pad a gap -ℤ pad b 0 ≡ smallest (high_read a b p gap) 0
+  pub high_first : pad a gap -ℤ pad b 0 ≡ smallest (high_read a b 0 p gap) 0
   unfolding first_by
   high_first = rw (mul-zero p, zero-add gap)

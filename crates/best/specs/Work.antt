@@ -3,22 +3,25 @@
 -- Worked: rows 0,1,2,3,9,10,11 and 0,1,2,3,4,5,6. The level of stride 2 reads pads 0, 2, 4, 6, less 0, 2, 4, 6: x = 0,0,5,5 and y = 0,0,0,0. Its trial at 2
 -- reads a_0 - b_4 = a_2 - b_6 = -4 and a_4 - b_0 = a_6 - b_2 = 9; 4 further on and 4 less these are the ends of its range, 0..5.
 -- The ladder is 7:3, 4:2, 2:1, 1:0 and the count 22.
-use Rattle.std.specs.Prelude.{◌≡◌, IfSome, List, ◌++◌, ℕ, ◌+◌, ◌-◌, ◌*◌, ◌≤◌, ◌<◌, length, drop, ℤ, ◌-ℤ◌}
+use Rattle.std.specs.Prelude.{◌≡◌, IfSome, List, ◌++◌, ℕ, ◌+◌, ◌-◌, ◌*◌, ◌≤◌, ◌<◌, length, drop, ℤ, pos, ◌-ℤ◌}
 use Rattle.whole.specs.Pick.{largest, smallest}
 use Rattle.wiring.specs.Wiring.{pad}
-use Rattle.wiring.specs.Fit.{lean_of}
 use Rattle.jumper.specs.Limits.{max_pairs}
 use Rattle.jumper.specs.Span.{range_of}
 use Rattle.jumper.specs.declared.range.OffsetRange.{OffsetRange}
-use Rattle.best.specs.Halving.{Taken, taken, halving}
+use Rattle.best.specs.Halving.{Taken, taken, read_at, halving}
 use Rattle.best.specs.Best.{ladder_of, planned_of}
 use Rattle.best.specs.declared.plan.Planned.{Planned}
 use Rattle.best.specs.declared.entries.Entries.{Entries}
 use Rattle.best.specs.declared.level.Level.{Level}
 
--- entry j of the level of stride p: of x for the bottom row, of y for the top row
+-- entry j, read where it stands in a row: of x for the bottom row, of y for the top row
+abbrev pub entries : List ℤ → (first step lower : ℕ) → ℕ → ℤ
+entries a first step lower j = pad a (first + step * j) -ℤ pos (lower * j)
+
+-- the entries of a level of stride p: a[p j] - p j
 abbrev pub level_entries : List ℤ → ℕ → ℕ → ℤ
-level_entries a p j = lean_of a (p * j)
+level_entries a p = entries a 0 p p
 
 -- those of some entries
 abbrev pub x_of : Entries → ℕ → ℤ
@@ -27,21 +30,26 @@ x_of e = level_entries e.rows.now.bottom.now e.step
 abbrev pub y_of : Entries → ℕ → ℤ
 y_of e = level_entries e.rows.now.top.now e.step
 
--- the two differences of columns that are read from pad p i on, `gap` pads apart
-abbrev pub low_read : (a b : List ℤ) (p gap : ℕ) → ℕ → ℤ
-low_read a b p gap i = pad a (p * i) -ℤ pad b (p * i + gap)
+-- the two differences of columns that are read from pad first + step i on, `gap` pads apart
+abbrev pub low_read : (a b : List ℤ) (first step gap : ℕ) → ℕ → ℤ
+low_read a b first step gap i = pad a (first + step * i) -ℤ pad b (first + step * i + gap)
 
-abbrev pub high_read : (a b : List ℤ) (p gap : ℕ) → ℕ → ℤ
-high_read a b p gap i = pad a (p * i + gap) -ℤ pad b (p * i)
+abbrev pub high_read : (a b : List ℤ) (first step gap : ℕ) → ℕ → ℤ
+high_read a b first step gap i = pad a (first + step * i + gap) -ℤ pad b (first + step * i)
 
--- these, for so many i from 0 on, stand in rows of n pads; and the largest low one and the smallest high one
+-- these, for so many i from 0 on, stand in rows of n pads, the first at pad 0; and the largest low one and the smallest high one
 pub record Readable (n p gap count : ℕ) : Type 0 where
   pub some : 1 ≤ count
   pub few : count ≤ max_pairs
   pub inside : p * (count - 1) + gap < n
 
-abbrev pub read_of : (a b : List ℤ) (p gap count : ℕ) → OffsetRange
-read_of a b p gap count = record { low = largest (low_read a b p gap) (count - 1); high = smallest (high_read a b p gap) (count - 1) }
+abbrev pub read_of : (a b : List ℤ) (first step gap count : ℕ) → OffsetRange
+read_of a b first step gap count =
+    record { low = largest (low_read a b first step gap) (count - 1); high = smallest (high_read a b first step gap) (count - 1) }
+
+-- a trial at s among m entries: the range of the rule, and how many differences are read for it
+abbrev pub trial_of : (m : ℕ) (x y : ℕ → ℤ) (s : ℕ) → OffsetRange × ℕ
+trial_of m x y s = (range_of m x y s, read_at m s)
 
 -- what a level hands up: its best and count, and the range at its best where that was read
 pub record IsLevel (m : ℕ) (x y : ℕ → ℤ) (t : Taken) (r : Level) : Type 0 where

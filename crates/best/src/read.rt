@@ -17,7 +17,7 @@ fn difference(rows: &Rows<'_>, i: usize, j: usize) -> i32
 // The ends of the differences of columns `gap` pads apart, at `count` pads from the first on, `step` pads from one to the next.
 fn ends(rows: &Rows<'_>, step: usize, gap: usize, count: usize) -> OffsetRange
     requires { Readable (length rows.now.bottom.now) step gap count }
-    ensures { result ≡ read_of rows.now.bottom.now rows.now.top.now step gap count }
+    ensures { result ≡ read_of rows.now.bottom.now rows.now.top.now 0 step gap count }
 {
     let mut low = difference(rows, 0, gap);
     let mut high = difference(rows, gap, 0);
@@ -33,7 +33,7 @@ fn ends(rows: &Rows<'_>, step: usize, gap: usize, count: usize) -> OffsetRange
 // and makes vector code of it.
 pub(crate) fn read(rows: &Rows<'_>, step: usize, gap: usize, count: usize) -> OffsetRange
     requires { Readable (length rows.now.bottom.now) step gap count }
-    ensures { result ≡ read_of rows.now.bottom.now rows.now.top.now step gap count }
+    ensures { result ≡ read_of rows.now.bottom.now rows.now.top.now 0 step gap count }
 {
     match step {
         1 => ends(rows, 1, gap, count),

@@ -6,7 +6,7 @@ ghost use Rattle.parts.specs.Routed.{places_kept, part_written};
 use crate::stays::Part;
 
 // The pads of a row that stay, side by side in the first places. Every pad is stored and only one that stays moves the place on, which takes no branch: so what
-// stands beyond them is left open, in memory that is ours.
+// stands beyond them is left open, in memory that is ours. The row is read by the byte's number: zipped with the bytes it takes a twentieth longer.
 pub(crate) fn keep_pads<'a>(row: &[i32], stays: &[u8], out: &'a mut [i32]) -> &'a [i32]
     requires { (length stays.now ≤ length row.now) × (length stays.now ≤ length out.old) }
     ensures { result.now ≡ row_kept stays.now row.now }

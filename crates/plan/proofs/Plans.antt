@@ -18,7 +18,7 @@ use Rattle.wiring.specs.Tracks.{rule_at}
 use Rattle.wiring.proofs.Serves.{rule_under, tracks_some}
 use Rattle.jumper.specs.Limits.{max_ladder, max_tracks, AcceptedOffset}
 use Rattle.jumper.specs.Refusals.{refusal_numbers}
-use Rattle.jumper.specs.Rows.{AcceptedRows, Checked, checked_numbers, unless_refused, or_else, check_rows}
+use Rattle.jumper.specs.Rows.{AcceptedRows, Checked, unless_refused, check_rows}
 use Rattle.jumper.specs.Asked.{check_tracks, check_offset, check_asked, AcceptedTracks}
 use Rattle.jumper.specs.Range.{whole_range, is_empty}
 use Rattle.jumper.specs.Span.{lowest_at, highest_at, range_of}
@@ -29,8 +29,8 @@ use Rattle.jumper.proofs.Accepted.{numbered}
 use Rattle.jumper.proofs.Wired.{wired_accepted, tracks_most}
 use Rattle.jumper.proofs.Checks.{Early, tracks_accepted, early_rows, early_tracks, early_shift, early_asked}
 use Rattle.fit.specs.Misfit.{misfit_of, no_fit, fit_of, FitAnswer}
-use Rattle.fit.specs.Least.{pair_of, side_of, least_numbers, least_of, with_witness, least_answer, LeastAnswer}
-use Rattle.fit.specs.Offsets.{offsets_numbers, offsets_answer, range_found, OffsetsAnswer}
+use Rattle.fit.specs.Least.{pair_of, side_of, least_of, with_witness, least_answer, LeastAnswer}
+use Rattle.fit.specs.Offsets.{offsets_answer, range_found, OffsetsAnswer}
 use Rattle.fit.specs.declared.misfit.Misfit.{Misfit}
 use Rattle.fit.specs.declared.least.Least.{Least}
 use Rattle.fit.proofs.Spans.{past_all, empty_range, some_range}

@@ -51,7 +51,8 @@ pub record MovesOut (l s : ℕ) (d : ℤ) (a b : List ℤ) (i t : ℕ) (out : Li
   pub fits : from ≤ length out → to ≤ length out
   pub far : i' < length a → length out < to + 31
 
--- What is asked, from a wire and its track on: its frames, those of one wire, and the rest of those where it stopped
+-- What its parts promise each other; no reader needs to believe these. Of what is asked, from a wire and its track on: its frames, those of one wire, and
+-- the rest of those where it stopped
 abbrev pub frames : (l : ℕ) (q : Question) (i t : ℕ) → List ℕ
 frames l q i t = route_left l q.separation q.offset q.rows.bottom.now q.rows.top.now i t
 
@@ -62,7 +63,7 @@ abbrev pub frames_left : (l : ℕ) (q : Question) (i : ℕ) → Option ℕ → L
 frames_left l q i None = []
 frames_left l q i (Some t) = wire_frames l q i t
 
--- What its parts promise each other; no reader needs to believe these. The frames of what is asked
+-- the frames of what is asked
 pub record RouteOut (l : ℕ) (q : Question) (i t : ℕ) (out : List ℕ) (from : ℕ) (i' t' to : ℕ) (out' : List ℕ) : Type 0 where
   pub gave : take from out ++ frames l q i t ≡ take to out' ++ frames l q i' t'
   pub fits : from ≤ length out → to ≤ length out

@@ -103,7 +103,6 @@ fn draw_held<F: Fn(usize) -> i32>(held: usize, column: F, end: i32, out: &mut [i
 }
 
 // 01's columns of a wire, as many as there is room for. The direction is chosen once for the whole wire.
-#[tactic(auto, using(crate::proofs::Wires::ways))]
 fn draw_entries(wire: Wire<'_>, out: &mut [i32])
     ensures { (t : ℕ) → t < length out.old → pad out.new t ≡ entry (length wire.entry.row.now) (pad wire.entry.row.now) wire.entry.end wire.entry.pad t }
 {

@@ -1,4 +1,5 @@
-use Rattle.std.proofs.Common.{◌≡◌, ◌∙◌, arith}
+use Rattle.std.proofs.Common.{◌≡◌, ◌∙◌, ◌*◌, arith}
+use native.Mathlib.Nat.{zero-add}
 use Rattle.whole.proofs.Machine.{back}
 use Rattle.best.specs.Work.{low_read, high_read}
 use Rattle.best.proofs.Ends.{larger_step, smaller_step, low_first, high_first}
@@ -15,13 +16,14 @@ loop-i-init c =
 pub loop-i-preserved : goal.loop-i-preserved
 loop-i-preserved c =
     let a = c.args in
-    let lows = low_read a.rows.now.bottom.now a.rows.now.top.now a.step a.gap in
-    let highs = high_read a.rows.now.bottom.now a.rows.now.top.now a.step a.gap in
+    let lows = low_read a.rows.now.bottom.now a.rows.now.top.now 0 a.step a.gap in
+    let highs = high_read a.rows.now.bottom.now a.rows.now.top.now 0 a.step a.gap in
+    let k = zero-add (a.step * c.loop-i.i) in
     let l = rw (back _ c.difference.type_inv) at c.max-low.ensures.value in
     let h = rw (back _ c.difference-in-loop-i.type_inv) at c.min-high.ensures.value in
     record {
-      low = back _ c.max-low.type_inv ∙ larger_step lows c.loop-i.i _ _ _ c.loop-i.auto.i c.loop-i.invariant.low c.difference.ensures l;
-      high = back _ c.min-high.type_inv ∙ smaller_step highs c.loop-i.i _ _ _ c.loop-i.auto.i c.loop-i.invariant.high c.difference-in-loop-i.ensures h;
+      low = back _ c.max-low.type_inv ∙ larger_step lows c.loop-i.i _ _ _ c.loop-i.auto.i c.loop-i.invariant.low (rw k c.difference.ensures) l;
+      high = back _ c.min-high.type_inv ∙ smaller_step highs c.loop-i.i _ _ _ c.loop-i.auto.i c.loop-i.invariant.high (rw k c.difference-in-loop-i.ensures) h;
     }
 
 pub returns : goal.returns

@@ -7,6 +7,6 @@ use Rattle.best.proofs.read.ends.Given as goal
 abbrev pub invariant-loop-i : goal.invariant-loop-i
 invariant-loop-i l =
     record {
-      low : l.low ≡ largest (low_read l.rows.bottom.now l.rows.top.now l.step l.gap) (l.i - 1);
-      high : l.high ≡ smallest (high_read l.rows.bottom.now l.rows.top.now l.step l.gap) (l.i - 1);
+      low : l.low ≡ largest (low_read l.rows.bottom.now l.rows.top.now 0 l.step l.gap) (l.i - 1);
+      high : l.high ≡ smallest (high_read l.rows.bottom.now l.rows.top.now 0 l.step l.gap) (l.i - 1);
     }
