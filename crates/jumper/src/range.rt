@@ -34,6 +34,12 @@ impl OffsetRange {
         self.high < self.low
     }
 
+    pub fn contains(self, offset: i32) -> bool
+        ensures { (result ≡ true) ↔ Within offset self }
+    {
+        self.low <= offset && offset <= self.high
+    }
+
     // The range of the offsets that both hold.
     pub fn meet(self, other: Self) -> Self
         ensures answer { result ≡ meet_of self other }

@@ -174,3 +174,26 @@ impl fmt::Display for Side {
 }
 
 impl Error for Refusal {}
+
+#[cfg(test)]
+mod tests {
+    use super::*;
+    use std::test::Fail;
+
+    #[test]
+    fn refusals_in_words(rt: HostRuntime) -> Result<(), Fail> {
+        let alloc = rt.alloc();
+        let cases = [
+            (Refusal::Empty, "no pairs"),
+            (Refusal::Order(7), "a column not right of the one before, at place 7"),
+            (Refusal::NoFit(3, Side::Left), "no wiring: pair 3 is too far left"),
+            (Refusal::NoOffset(1, 2), "no offset fits: pairs 1 and 2"),
+            (Refusal::BadWire(4, 5), "wire 4 is not legal on track 5"),
+        ];
+        for (refusal, words) in cases {
+            let told = format!(in alloc; "{refusal}")?;
+            assert_eq!(rt; told.as_str(), words);
+        }
+        Ok(())
+    }
+}
