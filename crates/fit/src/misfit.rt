@@ -57,8 +57,7 @@ pub(crate) fn first_misfit(q: Question<'_>) -> Option<Misfit>
     if q.rows.bottom.len() <= s {
         return None;
     }
-    let r = range_of(q.rows, s);
-    if r.low <= q.offset && q.offset <= r.high {
+    if range_of(q.rows, s).contains(q.offset) {
         return None;
     }
     misfit_from(q, s, 0)

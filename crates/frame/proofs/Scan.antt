@@ -1,5 +1,5 @@
 -- Reading a text digit by digit: what the loops of decoding rest on.
-use Rattle.std.proofs.Common.{◌≡◌, ℕ, zero, suc, ◌+◌, ◌*◌, ◌/◌, ◌%◌, ◌<◌, max, Some, None, Bool, true, false, ◌&&◌, cond, nat_lt, ltb, eqb, ◌⊎◌, List, [], ◌∷◌, length, get_or, take, sum, refl, sym, ◌∙◌, ap, inl, inr, arith, ltb-true, ltb-false, lt-ltb, eq-eqb, ne_eqb}
+use Rattle.std.proofs.Common.{◌≡◌, ℕ, zero, suc, ◌+◌, ◌*◌, ◌/◌, ◌%◌, ◌<◌, max, Some, None, Bool, true, false, ◌&&◌, cond, nat_lt, ltb, eqb, List, [], ◌∷◌, length, get_or, take, sum, refl, sym, ◌∙◌, ap, arith, ltb-true, lt-ltb, eq-eqb, ne_eqb}
 use Rattle.std.specs.List.{list_all}
 use Rattle.std.specs.Option.{unwrap_or}
 use Rattle.std.proofs.lemmas.List.{ext_get_or}
@@ -9,10 +9,6 @@ use Rattle.frame.specs.Hex.{is_digit, value_of, bytes_of, is_sound, worth, Worth
 pub either {ℓ} : {P : Type ℓ} (b : Bool) → (b ≡ true → P) → (b ≡ false → P) → P
 either true f g = f refl
 either false f g = g refl
-
--- below the next is below, or it
-pub below_or : (j i : ℕ) → j < i + 1 → (j < i) ⊎ (j ≡ i)
-below_or j i h = either (ltb j i) (λ e. inl (ltb-true j i e)) (λ e. let g = ltb-false j i e in inr (omega arith))
 
 -- ---- one digit
 

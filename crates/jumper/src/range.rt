@@ -34,6 +34,7 @@ impl OffsetRange {
         self.high < self.low
     }
 
+    #[inline]
     pub fn contains(self, offset: i32) -> bool
         ensures { (result ≡ true) ↔ Within offset self }
     {

@@ -11,7 +11,7 @@ use jumper::limits::MAX_PAIRS;
 use memchr::memchr;
 
 // A state, how much of the piece was taken in, and the place after what was written.
-#[derive(Clone, Copy)]
+#[derive(Clone, Copy, Debug, PartialEq, Eq)]
 pub struct Feeding {
     pub s: State,
     pub used: usize,

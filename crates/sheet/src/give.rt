@@ -10,7 +10,7 @@ use jumper::refusal::{Numbers, Refusal};
 use route::moves::give_moves;
 
 // A state, and the place after what was written.
-#[derive(Clone, Copy)]
+#[derive(Clone, Copy, Debug, PartialEq, Eq)]
 pub struct Giving {
     pub s: State,
     pub n: usize,

@@ -13,7 +13,7 @@ use jumper::refusal::Numbers;
 
 // The rest of a route, as frames 21 of a line: drawn at this separation and offset through the first `wires` columns of the lent rows, from `wire` and
 // its `track` on.
-#[derive(Clone, Copy)]
+#[derive(Clone, Copy, Debug, PartialEq, Eq)]
 pub struct Route {
     pub line: u8,
     pub separation: usize,
@@ -25,7 +25,7 @@ pub struct Route {
 
 // The first `at` places of the lent line hold the text of the current line; the rows of the machine's open line are lent too. Still to write, in this
 // order: a 20 with SEQUENCE for the line that a header `cut` off; the 20 that is `due`; a `route`.
-#[derive(Clone, Copy)]
+#[derive(Clone, Copy, Debug, PartialEq, Eq)]
 pub struct State {
     pub at: usize,
     pub machine: Machine,

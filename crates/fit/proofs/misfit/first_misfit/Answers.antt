@@ -1,7 +1,6 @@
 use Rattle.std.proofs.Common.{sym, rules, length, w32}
 use mir.Val.{SFits}
 use Rattle.std.proofs.lemmas.Int.{to_z-of_z}
-use Rattle.whole.proofs.Order.{true_le}
 use Rattle.wiring.specs.Fit.{lean_of}
 use Rattle.wiring.proofs.Rule.{fits_past}
 use Rattle.jumper.specs.Range.{Within}
@@ -17,16 +16,12 @@ returns-then-q-s c =
     let d = c.args.q.offset in
     rw (← c.rule_at-s.ensures) (sym (fits_none a b c.rule_at-s.result d (fits_past (length a) c.rule_at-s.result (lean_of a) (lean_of b) d c.if-q-s.true)))
 
-pub returns-then-q-r : goal.returns-then-q-r
-returns-then-q-r c =
+pub returns-then-contains : goal.returns-then-contains
+returns-then-contains c =
     let a = c.args.q.rows.bottom.now in
     let b = c.args.q.rows.top.now in
     let s = c.rule_at-s.result in
     let d = c.args.q.offset in
     let fd : SFits w32 d = search rules in
-    let fl : SFits w32 c.range_of-r.result.low = search rules in
-    let fh : SFits w32 c.range_of-r.result.high = search rules in
-    let l = rw (to_z-of_z w32 _ fl, to_z-of_z w32 _ fd, c.range_of-r.ensures) at c.if-r-q.true in
-    let h = rw (to_z-of_z w32 _ fh, to_z-of_z w32 _ fd, c.range_of-r.ensures) at c.if-q-r.true in
-    let w : Within d (range_of (length a) (lean_of a) (lean_of b) s) = record { low = true_le _ _ l; high = true_le _ _ h } in
+    let w : Within d (range_of (length a) (lean_of a) (lean_of b) s) = rw (to_z-of_z w32 _ fd, c.range_of.ensures) at (c.contains.ensures.0 c.if-contains.true) in
     rw (← c.rule_at-s.ensures) (sym (fits_none a b s d ((range_exactly (length a) (lean_of a) (lean_of b) s c.if-q-s.false d).0 w)))
