@@ -1,7 +1,7 @@
-use Rattle.std.specs.Prelude.{Ok, Err, Option, Some, None}
+use Rattle.std.specs.Prelude.{Ok, Err}
 -- WHAT THE CALLS PROMISE, from what their parts find; and the laws that join them: drawing all is drawing each, and what is drawn is accepted.
--- Sections: the same wires; the checker; an answer of fit; one wire; all wires; the laws that join them.
-use mathlib.Core.Path.{◌≡◌, refl, sym, ap, ◌∙◌}
+-- Sections: the same wires; the checker; one wire; all wires; the laws that join them.
+use mathlib.Core.Path.{◌≡◌, refl, sym, ◌∙◌}
 use mathlib.Core.List.{List}
 use mathlib.Core.Logic.{◌⊎◌, inl, inr, ◌↔◌}
 use Prim.Native.Nat.{ℕ, zero, suc, ◌+◌, ◌*◌, ◌≤◌, ◌<◌}
@@ -12,21 +12,18 @@ use lib.Seq.{take_at}
 use lib.IntN.{ℤ}
 use Rattle.wiring.specs.Wiring.{Legal, pad, top_pad, HasWiring}
 use Rattle.wiring.specs.Fit.{Rising}
-use Rattle.wiring.specs.Tracks.{rule_at}
 use Rattle.wiring.specs.Table.{up_from, wire_of, LegalTable}
 use Rattle.wiring.proofs.Theorem.{shifted_rising, drawing_legal}
 use Rattle.jumper.specs.Refusals.{refusal_numbers}
-use Rattle.jumper.specs.Rows.{AcceptedRows, checked_numbers, or_else}
+use Rattle.jumper.specs.Rows.{AcceptedRows, checked_numbers}
 use Rattle.jumper.specs.Asked.{check_asked, Asked}
 use Rattle.jumper.specs.declared.asked.Question.{Question}
 use Rattle.jumper.specs.declared.refusal.Refusal.{Refusal}
-use Rattle.jumper.specs.declared.refusal.Refusal.TheVariants.{Buffer, NoFit, BadWire}
-use Rattle.jumper.specs.declared.refusal.Side.{Side}
+use Rattle.jumper.specs.declared.refusal.Refusal.TheVariants.{Buffer, BadWire}
 use Rattle.jumper.specs.Rows.{Checked}
 use Rattle.jumper.proofs.Accepted.{numbered, refused_not, accepted_of}
 use Rattle.jumper.proofs.Checks.{accepted_asked, asked_accepted, early_asked}
-use Rattle.fit.specs.Misfit.{misfit_of, no_fit, FitAnswer, Witness}
-use Rattle.fit.specs.declared.misfit.Misfit.{Misfit}
+use Rattle.fit.specs.Misfit.{FitAnswer, Witness}
 use Rattle.jumper.proofs.Wired.{wiring_exactly}
 use Rattle.route.specs.Table.{column_in, columns, wires, LegalRoute}
 use Rattle.route.specs.Draw.{drawn_of, drawn_wires, wire_drawn, all_drawn, wire_refusal, all_refusal, DrawWireAnswer, DrawAllAnswer}
@@ -130,27 +127,6 @@ module _ (a b : List ℤ) (s : ℕ) (d : ℤ) (table : List ℤ) where
 -- what is drawn is legal where a wiring exists
 drawn_legal : {a b : List ℤ} → AcceptedRows a b → (s : ℕ) (d : ℤ) → HasWiring a b s d → Legal (length a) s (pad a) (top_pad b d) (drawn_wires a b s d)
 drawn_legal {a} {b} r s d w = (drawing_legal (length a) s (pad a) (pad b) d r.bottom.rising (rw r.equal r.top.rising)).1 ((wiring_exactly r s d).0 w)
-
--- AN ANSWER OF FIT tells whether what is asked is refused: 1 to 7 are the check's, and the only refusal of its own is NOFIT
-module _ (a b : List ℤ) (s : ℕ) (d : ℤ) where
-  pub misfit_asked : (r : Refusal) (i : ℕ) (k : Side) → FitAnswer a b s d (Err r) → r ≡ NoFit i k → check_asked a b s d ≡ Ok tt
-  misfit_asked r i k f e = go (check_asked a b s d) (misfit_of a b (rule_at s) d) refl f.answer
-    where
-      go : (v : Checked) (m : Option Misfit) → check_asked a b s d ≡ v → Err r ≡ or_else v (no_fit m) → v ≡ Ok tt
-      go (Ok u) m g h = refl
-      go (Err q) m g h =
-          let l = rw g at (early_asked a b s d) in
-          let x : ◌≡◌ {A = Checked} (Err (NoFit i k)) (Err q) = rw (← e) h in
-          let n : 10 ≡ (refusal_numbers q).refusal = ap (λ (y : Checked). (checked_numbers y).refusal) x in
-          absurd (omega arith)
-
-  pub early_refused : (r : Refusal) → FitAnswer a b s d (Err r) → ((i : ℕ) (k : Side) → r ≡ NoFit i k → ⊥) → check_asked a b s d ≡ Err r
-  early_refused r f not = go (check_asked a b s d) (misfit_of a b (rule_at s) d) f.answer
-    where
-      go : (v : Checked) (m : Option Misfit) → Err r ≡ or_else v (no_fit m) → v ≡ Err r
-      go (Ok u) None h = absurd (refused_not r h)
-      go (Ok u) (Some m) h = absurd (not m.pair m.side (cc))
-      go (Err q) m h = sym h
 
 -- ONE WIRE
 module _ (a b : List ℤ) (s : ℕ) (d : ℤ) (wire : ℕ) (out : List ℤ) where

@@ -4,7 +4,7 @@ use mathlib.Core.Path.{◌≡◌, refl, sym, ap, ◌∙◌}
 use mathlib.Core.List.{List, [], ◌∷◌, ◌++◌, append_assoc, append-nil}
 use mathlib.Core.Logic.{⊎_elim}
 use Prim.Native.Nat.{ℕ, zero, suc, ◌+◌, ◌-◌, ◌*◌, ◌≤◌, ◌<◌}
-use native.Mathlib.Nat.{suc-mul, mul-le-mul_right, eq-or-lt_of_le, add-suc, add-zero}
+use native.Mathlib.Nat.{suc-mul, mul-le-mul_right, eq-or-lt_of_le}
 use native.Mathlib.Numerals.{add-one}
 use native.Mathlib.Omega.{arith}
 use Rattle.std.proofs.lemmas.List.{take_more, take-append-drop}
@@ -22,11 +22,6 @@ pub columns_same : (e f : ℕ → ℤ) (k : ℕ) → ((t : ℕ) → t < k → e 
 unfolding columns
 columns_same e f zero h = refl
 columns_same e f (suc k) h = rw (columns_same e f k (λ t l. h t (omega arith)), h k (omega arith))
-
-pub columns_more : (e : ℕ → ℤ) (m k : ℕ) → columns e (m + k) ≡ columns e m ++ columns (λ t. e (m + t)) k
-unfolding columns
-columns_more e m zero = rw (add-zero, append-nil)
-columns_more e m (suc k) = rw (add-suc m k, columns_more e m k, append_assoc)
 
 -- what stands at track t, whatever follows the columns
 pub columns_at : (e : ℕ → ℤ) (k t : ℕ) (rest : List ℤ) → t < k → get_or (columns e k ++ rest) t (pos 0) ≡ e t

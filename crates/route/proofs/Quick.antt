@@ -7,8 +7,6 @@ use Prim.Native.Nat.{ℕ, suc, ◌+◌, ◌*◌, ◌≤◌, ◌<◌}
 use native.Mathlib.Nat.{eq-or-lt_of_le}
 use native.Mathlib.Numerals.{add-one}
 use native.Mathlib.Omega.{arith}
-use borrow.Author.Tests.{eqb-true, eq-eqb}
-use lib.Dec.{eqb}
 use lib.ListN.{length, get_or, take, drop}
 use lib.Seq.{get_or-take, get_or-drop}
 use Rattle.std.specs.Bool.{MatchBool}
@@ -115,11 +113,11 @@ module _ (n s : ℕ) (a c : ℕ → ℤ) (e : ℕ → ℕ → ℤ) (i : ℕ) whe
     go true h = ((λ z. untrue (sym h ∙ z)), (λ z. refl))
     go false h = ((λ z. refl), (λ z. untrue (sym z ∙ h)))
 
-    pub clear_by : (p q : ℕ → ℤ) (k : ℕ) → right ≡ true → suc i < n → ((t : ℕ) → t ≤ s → p t ≡ e i t) → ((t : ℕ) → t ≤ s → q t ≡ e (suc i) t)
-        → (k ≡ 0) ↔ RunsApart p q s → (eqb k 0 ≡ true) ↔ WireClear n s a c e i
-    clear_by p q k f l here there r =
+    pub clear_by : (p q : ℕ → ℤ) (apart : Bool) → right ≡ true → suc i < n → ((t : ℕ) → t ≤ s → p t ≡ e i t) → ((t : ℕ) → t ≤ s → q t ≡ e (suc i) t)
+        → (apart ≡ true) ↔ RunsApart p q s → (apart ≡ true) ↔ WireClear n s a c e i
+    clear_by p q apart f l here there r =
         let same = runs_same p (e i) q (e (suc i)) s here there in
-        ((λ z. clear_of ((go _ tells).0 f) (λ h. same.0 (r.0 (eqb-true k 0 z)))), (λ w. eq-eqb k 0 (r.1 (same.1 (clear_runs l w)))))
+        ((λ z. clear_of ((go _ tells).0 f) (λ h. same.0 (r.0 z))), (λ w. r.1 (same.1 (clear_runs l w))))
 
     pub clear_last : right ≡ true → n ≤ suc i → (true ≡ true) ↔ WireClear n s a c e i
     clear_last f l = ((λ z. clear_of ((go _ tells).0 f) (λ h. absurd (omega arith))), (λ w. refl))

@@ -78,7 +78,7 @@ impl<'a> Table<'a> {
             return false;
         }
         match wire.next() {
-            Some(next) => touches(wire.columns(), next.columns(), self.asked.separation) == 0,
+            Some(next) => runs_apart(wire.columns(), next.columns(), self.asked.separation),
             None => true,
         }
     }
@@ -197,14 +197,14 @@ fn touch(p: i32, p2: i32, q: i32, q2: i32) -> u32
     not_left(p, q) + not_left(p, q2) + not_left(p2, q) + not_left(p2, q2)
 }
 
-// The same of the runs of two neighbours on all tracks below s. It counts, and doesn't stop at the first fault, so that the loop has no branch.
-fn touches(p: &[i32], q: &[i32], s: usize) -> u32
+// Whether a wire's runs are wholly to the left of its neighbour's on all tracks below s. It counts, and doesn't stop at the first fault: the loop has no branch.
+fn runs_apart(p: &[i32], q: &[i32], s: usize) -> bool
     requires { (s ≤ max_tracks) × (s < length p.now) × (s < length q.now) }
-    ensures { (result ≡ 0) ↔ RunsApart (pad p.now) (pad q.now) s }
+    ensures { (result ≡ true) ↔ RunsApart (pad p.now) (pad q.now) s }
 {
     let mut count: u32 = 0;
     for t in 0..s {
         count += touch(p[t], p[t + 1], q[t], q[t + 1]);
     }
-    count
+    count == 0
 }

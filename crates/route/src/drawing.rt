@@ -60,12 +60,10 @@ fn asked<'a>(
     ensures ok { IfOk result (λ p. FitAsked a.now b.now s d p.0 p.1) }
     ensures err { IfErr result (λ r. check_asked a.now b.now s d ≡ Err r) }
 {
-    match fit(a, b, s, d) {
-        Ok(()) => Ok((accepted(a, b, s, d), Ok(()))),
-        Err(r) => match r {
-            Refusal::NoFit(..) => Ok((accepted(a, b, s, d), Err(r))),
-            _ => Err(r),
-        },
+    let fits = fit(a, b, s, d);
+    match fits {
+        Ok(()) | Err(Refusal::NoFit(..)) => Ok((accepted(a, b, s, d), fits)),
+        Err(r) => Err(r),
     }
 }
 

@@ -19,8 +19,8 @@ returns-in-Some c =
     let inside = rw (e.0, e.1) at c.in-Some.next.inside in
     same_clear c.args.self w.table c.args.i w.wire _ c.wire-wire.ensures
     (clear_by (pairs q) q.separation (bottom q) (top q) (entered q w.table.columns.now) w.wire _ c.ends_right.ensures
-    (pad c.columns.result.now) (pad c.columns-in-Some.result.now) c.touches.result c.if-not-ends_right.false (omega arith)
-    c.columns.ensures.columns (rw (e.0, e.1, add-one) at c.columns-in-Some.ensures.columns) (rw c.wire-wire.ensures.0 c.touches.ensures))
+    (pad c.columns.result.now) (pad c.columns-in-Some.result.now) c.runs_apart.result c.if-not-ends_right.false (omega arith)
+    c.columns.ensures.columns (rw (e.0, e.1, add-one) at c.columns-in-Some.ensures.columns) (rw c.wire-wire.ensures.0 c.runs_apart.ensures))
 
 pub returns-in-None : goal.returns-in-None
 returns-in-None c =

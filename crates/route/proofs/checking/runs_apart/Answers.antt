@@ -2,7 +2,7 @@ use Rattle.std.proofs.Common.{rules, arith, ◌+◌, FitsSigned, w32}
 use Rattle.std.proofs.lemmas.Int.{to_z-of_z}
 use Rattle.wiring.specs.Wiring.{pad}
 use Rattle.route.proofs.Quick.{runs_more}
-use Rattle.route.proofs.checking.touches.Goals as goal
+use Rattle.route.proofs.checking.runs_apart.Goals as goal
 
 pub loop-t-preserved : goal.loop-t-preserved
 loop-t-preserved c =
