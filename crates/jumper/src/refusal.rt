@@ -185,8 +185,14 @@ mod tests {
         let alloc = rt.alloc();
         let cases = [
             (Refusal::Empty, "no pairs"),
-            (Refusal::Order(7), "a column not right of the one before, at place 7"),
-            (Refusal::NoFit(3, Side::Left), "no wiring: pair 3 is too far left"),
+            (
+                Refusal::Order(7),
+                "a column not right of the one before, at place 7",
+            ),
+            (
+                Refusal::NoFit(3, Side::Left),
+                "no wiring: pair 3 is too far left",
+            ),
             (Refusal::NoOffset(1, 2), "no offset fits: pairs 1 and 2"),
             (Refusal::BadWire(4, 5), "wire 4 is not legal on track 5"),
         ];
