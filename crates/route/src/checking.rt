@@ -197,7 +197,7 @@ fn touch(p: i32, p2: i32, q: i32, q2: i32) -> u32
     not_left(p, q) + not_left(p, q2) + not_left(p2, q) + not_left(p2, q2)
 }
 
-// Whether a wire's runs are wholly to the left of its neighbour's on all tracks below s. It counts, and doesn't stop at the first fault: the loop has no branch.
+// Whether a wire's run is wholly to the left of its neighbour's on each track below s. It counts, and doesn't stop at the first fault: the loop has no branch.
 fn runs_apart(p: &[i32], q: &[i32], s: usize) -> bool
     requires { (s ≤ max_tracks) × (s < length p.now) × (s < length q.now) }
     ensures { (result ≡ true) ↔ RunsApart (pad p.now) (pad q.now) s }
