@@ -12,7 +12,7 @@ use sheet::state::{State, busy, fresh};
 use std::io::{Read, Write};
 use std::process::ExitCode;
 
-// Not all is answered, and nothing more is: an error was told, or no turn is left of 2^64.
+// Not all is answered, and nothing more is: an error was told, or no turn is left of all that a u64 counts.
 #[derive(Clone, Copy, Debug)]
 struct Stopped;
 

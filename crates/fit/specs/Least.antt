@@ -42,7 +42,8 @@ least_of x y d (suc n) = cond (breaks_at x y (least_of x y d n) d (n - least_of 
 -- the separation that a number above 0 serves, with the witness at one track fewer, which is always there
 abbrev pub with_witness : ℕ → Option Misfit → Least
 with_witness zero m = record { separation = 0; witness = None }
-with_witness (suc s) m = record { separation = tracks_for (suc s); witness = m }
+with_witness (suc s) None = record { separation = 0; witness = None }
+with_witness (suc s) (Some m) = record { separation = tracks_for (suc s); witness = Some m }
 
 abbrev pub least_answer : (a b : List ℤ) (d : ℤ) → Result Least Refusal
 least_answer a b d = unless_refused (check_offset a b d) Err (Ok (with_witness (least_of (lean_of a) (lean_of b) d (length a)) (misfit_of a b (least_of (lean_of a) (lean_of b) d (length a) - 1) d)))

@@ -73,11 +73,7 @@ fn narrower(rows: Rows<'_>, i: usize, s: usize) -> Place
     ensures { result ≡ record { row = cond (le_z (span rows.entry.bottom.now i s) (span rows.entry.top.now i s)) 0 1; start = i; pads = s + 1 } }
 {
     Place {
-        row: if span_of(rows.bottom, i, s) <= span_of(rows.top, i, s) {
-            0
-        } else {
-            1
-        },
+        row: u8::from(span_of(rows.top, i, s) < span_of(rows.bottom, i, s)),
         start: i,
         pads: s + 1,
     }

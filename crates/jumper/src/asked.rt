@@ -50,7 +50,7 @@ pub fn check_asked(a: &[i32], b: &[i32], s: usize, d: i32) -> Result<(), Refusal
     offset_fault(d)
 }
 
-// Two accepted rows with an accepted separation and offset, which only `check` makes: what takes them needn't ask again.
+// Two accepted rows with an accepted separation and offset: whoever makes them shows it, `check` by asking, and what takes them needn't ask again.
 #[derive(Clone, Copy)]
 pub struct Question<'a> {
     pub rows: Rows<'a>,

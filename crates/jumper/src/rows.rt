@@ -95,7 +95,7 @@ pub fn check_rows(a: &[i32], b: &[i32]) -> Result<(), Refusal>
     top.fault()
 }
 
-// Two rows that are accepted, which only `check` makes: what takes them needn't ask again.
+// Two rows that are accepted: whoever makes them shows it, `check` by asking, and what takes them needn't ask again.
 #[derive(Clone, Copy)]
 pub struct Rows<'a> {
     pub bottom: &'a [i32],

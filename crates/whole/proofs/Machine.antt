@@ -1,14 +1,19 @@
 -- What an i32 holds. In an invariant a signed local is its bits, a ℕ: `to_z w32 v`; `back` turns the bits of a whole number into it again.
-use mathlib.Core.Path.{◌≡◌}
-use mathlib.Core.Logic.{◌⊎◌, inl, inr}
+use mathlib.Core.Path.{◌≡◌, refl, sym, ap, ◌∙◌}
+use mathlib.Core.Bool.{Bool, true, false, not}
+use mathlib.Core.Logic.{◌⊎◌, inl, inr, ⊎_elim}
 use Prim.Native.Nat.{ℕ, ◌+◌, ◌≤◌, ◌<◌, ◌^◌}
 use native.Mathlib.Omega.{arith}
+use borrow.Author.Tests.{eqb-true, eqb-false}
+use lib.Dec.{eqb}
 use lib.IntN.{ℤ, pos, negsuc, ◌+ℤ◌, ◌-ℤ◌, nat_abs}
 use lib.Signed.{mag}
 use mir.Syntax.{w32}
-use mir.Val.{to_z, of_z}
+use mir.Val.{to_z, of_z, SFits}
 use mir.ValLaws.{to_z-of_z}
-use Rattle.whole.proofs.Arith.{up, down, sum, dif}
+use Rattle.whole.specs.Pick.{differ}
+use Rattle.whole.proofs.Arith.{up, down, arithℤ, sum, dif, ≤_or_<}
+use Rattle.whole.proofs.Order.{lt_true, lt_false}
 
 pub back : (z : ℤ) → mag z < 2 ^ 31 → to_z w32 (of_z w32 z) ≡ z
 back z h = to_z-of_z w32 z (record { sfits = h })
@@ -41,3 +46,17 @@ mag_abs (negsuc n) = omega arith
 -- a number within two thousand millions fits an i32
 pub fits32 : (z : ℤ) → nat_abs z ≤ 2000000000 → mag z < 2 ^ 31
 fits32 z h = omega (arith, mag_abs z)
+
+-- the machine compares bits: what `!=` says of two i32
+pub bits_differ : (x y : ℤ) → SFits w32 x → SFits w32 y → not (eqb (of_z w32 x) (of_z w32 y)) ≡ differ x y
+bits_differ x y hx hy = go (eqb (of_z w32 x) (of_z w32 y)) refl
+  where
+    go : (t : Bool) → eqb (of_z w32 x) (of_z w32 y) ≡ t → not t ≡ differ x y
+    go true e =
+        let p : x ≡ y = sym (to_z-of_z w32 x hx) ∙ ap (to_z w32) (eqb-true (of_z w32 x) (of_z w32 y) e) ∙ to_z-of_z w32 y hy in
+        rw (lt_false x y (omega arithℤ), lt_false y x (omega arithℤ))
+    go false e =
+        ⊎_elim
+        (λ le. ⊎_elim (λ ge. let p : x ≡ y = omega arithℤ in absurd (eqb-false (of_z w32 x) (of_z w32 y) e (ap (of_z w32) p))) (λ lt. rw (lt_true x y lt)) (≤_or_< y x))
+        (λ lt. rw (lt_false x y (omega arithℤ), lt_true y x lt))
+        (≤_or_< x y)
