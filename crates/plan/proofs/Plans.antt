@@ -68,8 +68,9 @@ least_straight a b d l e z =
     go : (c : Checked) (s : ℕ) (m : Option Misfit) → Ok l ≡ unless_refused c Err (Ok (with_witness s m)) → Straight l
     go (Err q) s m e = cc
     go (Ok u) zero m e = let f : l ≡ with_witness zero m = cc in rw f (refl, refl)
-    go (Ok u) (suc s) m e =
-        let f : l ≡ with_witness (suc s) m = cc in
+    go (Ok u) (suc s) None e = let f : l ≡ with_witness (suc s) None = cc in rw f (refl, refl)
+    go (Ok u) (suc s) (Some m) e =
+        let f : l ≡ with_witness (suc s) (Some m) = cc in
         absurd (omega (arith, ap (λ (k : Least). k.separation) f, tracks_some (suc s) (omega arith)))
 
 -- and so there is a best one: its refusals are those of the rows, and BUFFER
