@@ -105,7 +105,7 @@ module _ (p : List ℤ) (at : ℕ) (out₀ out : List ℤ) (here : length p ≡ 
       let z : drop (length out - at) (drop at out) ≡ [] = rw (g, put_same) (drop_of_length-le (drop at out₀) {i = length out₀ - at} past) in
       rw (z, e, lent, f, append-nil, drop-drop k at out₀, append_assoc)
 
--- a wire of which m columns were drawn, and the rest, up to k, on column c
+-- before the first wire all is as it was
 pub none_drawn : (e : ℕ → ℕ → ℤ) (s : ℕ) (out : List ℤ) → out ≡ wires e s 0 ++ drop (0 * (s + 1)) out
 unfolding wires
 none_drawn e s out = let z : 0 * (s + 1) ≡ 0 = omega arith in rw z

@@ -1,5 +1,5 @@
-use Rattle.std.specs.Prelude.{Ok}
 -- The frames 21: a wire that has come to its top pad's column, and what writing them leaves to write.
+use Rattle.std.specs.Prelude.{Ok}
 use mathlib.Core.Path.{◌≡◌, refl, sym, ap, ◌∙◌}
 use mathlib.Core.Bool.{Bool, true, false, cond, true≢false}
 use mathlib.Core.Logic.{⊎_elim}
