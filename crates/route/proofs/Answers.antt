@@ -100,7 +100,10 @@ module _ (a b : List ℤ) (s : ℕ) (d : ℤ) (table : List ℤ) where
         exact : NoFault (length a) s (pad a) (top_pad b d) (column_in table s) ↔ LegalRoute a b s d table
         exact = faultless_legal (length a) s (pad a) (top_pad b d) (column_in table s) k.rows.bottom.rising (top_rising k.rows d)
 
-        go : ((first_fault a b s d table ≡ Ok tt) × NoFault (length a) s (pad a) (top_pad b d) (column_in table s)) ⊎ ((i : ℕ) × (t : ℕ) × (first_fault a b s d table ≡ Err (BadWire i t)) × FirstFault (length a) s (pad a) (top_pad b d) (column_in table s) i t)
+        go :
+            ((first_fault a b s d table ≡ Ok tt) × NoFault (length a) s (pad a) (top_pad b d) (column_in table s))
+            ⊎ ((i : ℕ) × (t : ℕ) × (first_fault a b s d table ≡ Err (BadWire i t))
+            × FirstFault (length a) s (pad a) (top_pad b d) (column_in table s) i t)
             → RouteCheck a b s d table r
         go (inl g) =
             let p : r ≡ Ok tt = f ∙ g.0 in
@@ -233,7 +236,8 @@ module _ (a b : List ℤ) (s : ℕ) (d : ℤ) (out : List ℤ) where
           }
 
 -- DRAWING ALL IS DRAWING EACH: with room for both the answers are the same, and a wire's part of the table is what drawing it alone writes
-pub all_is_each : {a b : List ℤ} {s : ℕ} {d : ℤ} {out out' own own' : List ℤ} {i : ℕ} {r q : Checked} → DrawAllAnswer a b s d out out' r → DrawWireAnswer a b s d i own own' q → i < length a → length a * (s + 1) ≤ length out → s < length own
+pub all_is_each : {a b : List ℤ} {s : ℕ} {d : ℤ} {out out' own own' : List ℤ} {i : ℕ} {r q : Checked}
+    → DrawAllAnswer a b s d out out' r → DrawWireAnswer a b s d i own own' q → i < length a → length a * (s + 1) ≤ length out → s < length own
     → (q ≡ r) × ((checked_numbers r).refusal ≡ 0 → take (s + 1) own' ≡ take (s + 1) (drop (i * (s + 1)) out'))
 all_is_each {a} {b} {s} {d} {out} {out'} {own} {own'} {i} {r} {q} f g lt room Own-room = (same, parts)
   where
@@ -252,7 +256,8 @@ all_is_each {a} {b} {s} {d} {out} {out'} {own} {own'} {i} {r} {q} f g lt room Ow
         ∙ sym (wires_part (drawn_of a b d) s (length a) i (drop (length a * (s + 1)) out) lt))
 
 -- WHAT WE DRAW OUR CHECKER ACCEPTS
-pub drawn_accepted : {a b : List ℤ} {s : ℕ} {d : ℤ} {out out' : List ℤ} {r q : Checked} → DrawAllAnswer a b s d out out' r → RouteCheck a b s d out' q → (checked_numbers r).refusal ≡ 0 → (checked_numbers q).refusal ≡ 0
+pub drawn_accepted : {a b : List ℤ} {s : ℕ} {d : ℤ} {out out' : List ℤ} {r q : Checked}
+    → DrawAllAnswer a b s d out out' r → RouteCheck a b s d out' q → (checked_numbers r).refusal ≡ 0 → (checked_numbers q).refusal ≡ 0
 drawn_accepted {a} {b} {s} {d} {out} {out'} {r} f g z =
     let e : r ≡ Ok tt = accepted_of r z in
     let x : out' ≡ all_drawn a b s d out = rw e at f.buffer in

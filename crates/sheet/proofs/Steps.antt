@@ -98,7 +98,10 @@ module _ (s : State) (a b : List ℤ) (f : Frame) (t : Step) (a' b' : List ℤ) 
   unfolding pending
   completes_reacted o n d plan e =
       rw e (record {
-        out = ap (λ (l : List ℕ). cut_text t.cut ++ l) (complete_text t o a' b' n (k.told.few o d) plan ∙ sym (ap (λ (z : Did). text_of (told_by z t.machine a' b')) d)) ∙ sym (step_text t a' b') ∙ ap text_of k.told.event;
+        out =
+            ap (λ (l : List ℕ). cut_text t.cut ++ l)
+            (complete_text t o a' b' n (k.told.few o d) plan ∙ sym (ap (λ (z : Did). text_of (told_by z t.machine a' b')) d))
+            ∙ sym (step_text t a' b') ∙ ap text_of k.told.event;
         to = k.told.mode;
         seen = k.seen;
         begun = refl;

@@ -8,7 +8,10 @@ returns-in-Some-clause-wrote c =
     let loop = c.loop-i in
     let w = c.in-Some.ensures.wrote in
     record {
-      gave = loop.invariant.2 ∙ route_stop c.args.self.line q.separation q.offset q.rows.bottom.now q.rows.top.now loop.i loop.next c.in-Some.track loop.writer.out.now c.give_wire.new.writer.out.now loop.writer.at c.give_wire.new.writer.at c.loop-i-test.true w.gave;
+      gave =
+          loop.invariant.2
+          ∙ route_stop c.args.self.line q.separation q.offset q.rows.bottom.now q.rows.top.now loop.i loop.next c.in-Some.track
+          loop.writer.out.now c.give_wire.new.writer.out.now loop.writer.at c.give_wire.new.writer.at c.loop-i-test.true w.gave;
       fits = λ h. let y = loop.invariant.3 h in let z = w.fits (omega (arith, y, loop.invariant.1)) in omega (arith, z, loop.invariant.1);
       far = λ h. let z = w.far (λ e. absurd (cc)) in omega (arith, z, loop.invariant.1);
     }
@@ -21,7 +24,9 @@ loop-i-preserved c =
     let same = c.give_wire.ensures.same in (
       same.0 ∙ loop.invariant.0,
       same.1 ∙ loop.invariant.1,
-      loop.invariant.2 ∙ route_more c.args.self.line q.separation q.offset q.rows.bottom.now q.rows.top.now loop.i loop.next loop.writer.out.now c.give_wire.new.writer.out.now loop.writer.at c.give_wire.new.writer.at c.loop-i-test.true w.gave,
+      loop.invariant.2
+          ∙ route_more c.args.self.line q.separation q.offset q.rows.bottom.now q.rows.top.now loop.i loop.next
+          loop.writer.out.now c.give_wire.new.writer.out.now loop.writer.at c.give_wire.new.writer.at c.loop-i-test.true w.gave,
       λ h. let y = loop.invariant.3 h in let z = w.fits (omega (arith, y, loop.invariant.1)) in omega (arith, z, loop.invariant.1),
     )
 

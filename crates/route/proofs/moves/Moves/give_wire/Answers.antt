@@ -13,7 +13,10 @@ returns-then-from-wire-clause-wrote c =
     let w = c.of-wire in
     let f : FitsSigned w32 w.result.end = search rules in
     let there = sym loop.invariant.2 ∙ ap (to_z w32) c.if-from-wire.true ∙ to_z-of_z w32 w.result.end f ∙ w.ensures.2 in
-    let stays = wire_stays c.args.self.line q.separation (length q.rows.bottom.now) (pad q.rows.bottom.now) (top_pad q.rows.top.now q.offset) q.rows.accepted.bottom.rising c.args.i loop.t c.requires there in
+    let stays =
+    wire_stays c.args.self.line q.separation (length q.rows.bottom.now) (pad q.rows.bottom.now) (top_pad q.rows.top.now q.offset)
+    q.rows.accepted.bottom.rising c.args.i loop.t c.requires there
+    in
     record {
       gave = loop.invariant.3 ∙ ap (λ (z : List ℕ). take loop.writer.at loop.writer.out.now ++ z) stays;
       fits = loop.invariant.4;
