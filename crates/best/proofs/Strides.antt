@@ -1,5 +1,5 @@
 -- THE LAWS OF ENTRIES AT A STRIDE: which entries the even half has, that they never fall, and that a trial's range is read from the columns.
-use mathlib.Core.Path.{◌≡◌, ap, sym, ◌∙◌, fun_ext}
+use mathlib.Core.Path.{◌≡◌, sym, ◌∙◌, fun_ext}
 use mathlib.Core.List.{List}
 use Prim.Native.Nat.{ℕ, ◌+◌, ◌-◌, ◌*◌, ◌≤◌, ◌<◌, ◌^◌}
 use native.Mathlib.Nat.{zero-add, one-mul, mul-add, mul_assoc, mul_left_comm, mul-le-mul_left}
@@ -106,13 +106,16 @@ module _ (a b : List ℤ) (first step lower s : ℕ) where
   high_from m = rw (smallest_further (high_end x y s) highs (neg_ℤ (pos (lower * s))) high_is (m - s - 1)) (sym (high_is (smallest_at highs (m - s - 1))))
 
   -- wherever the entries stand and however they are lowered: what is read of the columns, its ends moved once, is the trial of the rule, and so is its count
-  pub trial_read : (m : ℕ) → s < m → (g : OffsetRange) → g ≡ read_of a b first step (step * s) (m - s)
-      → ◌≡◌ {A = OffsetRange × ℕ} (record { low = g.low +ℤ pos (lower * s); high = g.high -ℤ pos (lower * s) }, 2 * (m - s - 1 + 1)) (trial_of m x y s)
-  trial_read m h g e = let n : m - s - 1 + 1 ≡ m - s = omega (arith, h) in rw e (rw (low_from m, high_from m, n))
+  pub trial_read : (m : ℕ) → s < m → (r : OffsetRange × ℕ) → r ≡ read_of a b first step (step * s) (m - s)
+      → ◌≡◌ {A = OffsetRange × ℕ} (record { low = r.0.low +ℤ pos (lower * s); high = r.0.high -ℤ pos (lower * s) }, r.1) (trial_of m x y s)
+  trial_read m h r e = rw e (rw (low_from m, high_from m))
 
 -- as a trial works them out, from what is read and in an i32
-module _ (e : Entries) (s : ℕ) (h : s < e.len) (g : OffsetRange)
-    (q : g ≡ read_of e.rows.now.bottom.now e.rows.now.top.now 0 e.step (e.step * s) (e.len - s)) where
+module _ (e : Entries) (s : ℕ) (h : s < e.len) (r : OffsetRange × ℕ)
+    (q : r ≡ read_of e.rows.now.bottom.now e.rows.now.top.now 0 e.step (e.step * s) (e.len - s)) where
+  abbrev g : OffsetRange
+  g = r.0
+
   abbrev a : List ℤ
   a = e.rows.now.bottom.now
 
@@ -153,12 +156,14 @@ module _ (e : Entries) (s : ℕ) (h : s < e.len) (g : OffsetRange)
   pub high_fits : SFits w32 (to_z w32 (of_z w32 g.high) -ℤ to_z w32 (e.step * s))
   high_fits = rw (high_shown, shift) (record { sfits = high_inside })
 
-  pub range_read : ◌≡◌ {A = OffsetRange}
-      (record {
-        low = to_z w32 (of_z w32 (to_z w32 (of_z w32 g.low) +ℤ to_z w32 (e.step * s)));
-        high = to_z w32 (of_z w32 (to_z w32 (of_z w32 g.high) -ℤ to_z w32 (e.step * s)));
-      })
-      (range_of e.len (x_of e) (y_of e) s)
-  range_read =
+  pub tried : ◌≡◌ {A = OffsetRange × ℕ} (
+    record {
+      low = to_z w32 (of_z w32 (to_z w32 (of_z w32 g.low) +ℤ to_z w32 (e.step * s)));
+      high = to_z w32 (of_z w32 (to_z w32 (of_z w32 g.high) -ℤ to_z w32 (e.step * s)));
+    },
+    r.1,
+  )
+      (trial_of e.len (x_of e) (y_of e) s)
+  tried =
       rw (low_shown, high_shown, shift, back (g.low +ℤ z) low_inside, back (g.high -ℤ z) high_inside)
-      (ap (λ t. t.0) (trial_read a b 0 e.step e.step s e.len h g q))
+      (trial_read a b 0 e.step e.step s e.len h r q)

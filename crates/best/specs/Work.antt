@@ -37,15 +37,15 @@ low_read a b first step gap i = pad a (first + step * i) -ℤ pad b (first + ste
 abbrev pub high_read : (a b : List ℤ) (first step gap : ℕ) → ℕ → ℤ
 high_read a b first step gap i = pad a (first + step * i + gap) -ℤ pad b (first + step * i)
 
--- these, for so many i from 0 on, stand in rows of n pads, the first at pad 0; and the largest low one and the smallest high one
+-- these, for so many i from 0 on, stand in rows of n pads, the first at pad 0; and the largest low one and the smallest high one, and how many they are
 pub record Readable (n p gap count : ℕ) : Type 0 where
   pub some : 1 ≤ count
   pub few : count ≤ max_pairs
   pub inside : p * (count - 1) + gap < n
 
-abbrev pub read_of : (a b : List ℤ) (first step gap count : ℕ) → OffsetRange
+abbrev pub read_of : (a b : List ℤ) (first step gap count : ℕ) → OffsetRange × ℕ
 read_of a b first step gap count =
-    record { low = largest (low_read a b first step gap) (count - 1); high = smallest (high_read a b first step gap) (count - 1) }
+    (record { low = largest (low_read a b first step gap) (count - 1); high = smallest (high_read a b first step gap) (count - 1) }, 2 * count)
 
 -- a trial at s among m entries: the range of the rule, and how many differences are read for it
 abbrev pub trial_of : (m : ℕ) (x y : ℕ → ℤ) (s : ℕ) → OffsetRange × ℕ

@@ -18,9 +18,7 @@ pub(crate) struct Entries<'a> {
 
 impl<'a> Entries<'a> {
     ghost use Rattle.wiring.specs.Fit.{half};
-    ghost use Rattle.jumper.specs.Span.{range_of};
-    ghost use Rattle.best.specs.Halving.{read_at};
-    ghost use Rattle.best.specs.Work.{x_of, y_of};
+    ghost use Rattle.best.specs.Work.{x_of, y_of, trial_of};
 
     // All of x and y.
     pub(crate) fn whole(rows: &'a Rows<'a>) -> Self
@@ -49,26 +47,20 @@ impl<'a> Entries<'a> {
         }
     }
 
-    // The range at s. Each low end is step s further on than the difference that is read for it, and each high end as much less: this is added once.
-    pub(crate) fn range_at(&self, s: usize) -> OffsetRange
+    // A trial: the range at s, and how many differences were read for it. Each low end is step s further on than the difference that is read for it, and each
+    // high end as much less: this is added once. It is inlined: what it hands back through memory is written in parts and loaded whole, which the processor waits for.
+    #[inline]
+    pub(crate) fn try_at(&self, s: usize) -> (OffsetRange, usize)
         requires { s < self.now.len }
-        ensures { result ≡ range_of self.now.len (x_of self.now) (y_of self.now) s }
+        ensures { result ≡ trial_of self.now.len (x_of self.now) (y_of self.now) s }
     {
         let gap = self.step * s;
-        let read = read(self.rows, self.step, gap, self.len - s);
+        let (ends, count) = read(self.rows, self.step, gap, self.len - s);
         let shift = gap as i32;
-        OffsetRange {
-            low: read.low + shift,
-            high: read.high - shift,
-        }
-    }
-
-    // How many differences are read for the range at s: two for each entry that has one s further on. A counter beside the loop's own would halve the width
-    // at which it runs.
-    pub(crate) fn differences(&self, s: usize) -> usize
-        requires { s < self.now.len }
-        ensures { result ≡ read_at self.now.len s }
-    {
-        2 * (self.len - s)
+        let range = OffsetRange {
+            low: ends.low + shift,
+            high: ends.high - shift,
+        };
+        (range, count)
     }
 }

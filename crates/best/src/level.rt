@@ -37,8 +37,8 @@ impl Level {
         let even = 2 * self.best;
         let mut count = self.count;
         for s in even.saturating_sub(1)..even + 1 {
-            let range = entries.range_at(s);
-            count += entries.differences(s);
+            let (range, read) = entries.try_at(s);
+            count += read;
             if !range.is_empty() {
                 return Level {
                     best: s,
@@ -62,7 +62,7 @@ impl Level {
     {
         match self.range {
             Some(range) => range,
-            None => entries.range_at(self.best),
+            None => entries.try_at(self.best).0,
         }
     }
 }

@@ -1,4 +1,4 @@
-use Rattle.std.proofs.Common.{◌≡◌, ◌∙◌, ◌*◌, arith}
+use Rattle.std.proofs.Common.{◌≡◌, ◌∙◌, ◌*◌, refl, arith}
 use native.Mathlib.Nat.{zero-add}
 use Rattle.whole.proofs.Machine.{back}
 use Rattle.best.specs.Work.{low_read, high_read}
@@ -11,6 +11,7 @@ loop-i-init c =
     record {
       low = back _ c.difference-low.type_inv ∙ c.difference-low.ensures ∙ low_first a.rows.now.bottom.now a.rows.now.top.now a.step a.gap;
       high = back _ c.difference-high.type_inv ∙ c.difference-high.ensures ∙ high_first a.rows.now.bottom.now a.rows.now.top.now a.step a.gap;
+      read = refl;
     }
 
 pub loop-i-preserved : goal.loop-i-preserved
@@ -24,7 +25,8 @@ loop-i-preserved c =
     record {
       low = back _ c.max-low.type_inv ∙ larger_step lows c.loop-i.i _ _ _ c.loop-i.auto.i c.loop-i.invariant.low (rw k c.difference.ensures) l;
       high = back _ c.min-high.type_inv ∙ smaller_step highs c.loop-i.i _ _ _ c.loop-i.auto.i c.loop-i.invariant.high (rw k c.difference-in-loop-i.ensures) h;
+      read = omega (arith, c.loop-i.invariant.read);
     }
 
 pub returns : goal.returns
-returns c = let e : c.loop-i.i ≡ c.args.count = omega arith in rw (c.loop-i.invariant.low, c.loop-i.invariant.high, e)
+returns c = let e : c.loop-i.i ≡ c.args.count = omega arith in rw (c.loop-i.invariant.low, c.loop-i.invariant.high, c.loop-i.invariant.read, e)

@@ -1,4 +1,4 @@
-use Rattle.std.proofs.Common.{sym, ◌∙◌, arith}
+use Rattle.std.proofs.Common.{sym, ap, ◌∙◌, arith}
 use Rattle.best.specs.Work.{x_of, y_of}
 use Rattle.best.proofs.Choices.{none_tried, one_tried, one_open}
 use Rattle.best.proofs.level.Level.over.Goals as goal
@@ -10,12 +10,16 @@ loop-s-init c =
 
 pub returns-then-not-is_empty : goal.returns-then-not-is_empty
 returns-then-not-is_empty c =
-    one_open c.loop-s.invariant.tried c.range_at-range.ensures (omega arith) (sym c.is_empty.ensures.answer ∙ c.if-not-is_empty.true) (omega arith)
+    let tried = c.try_at-read.ensures in
+    one_open c.loop-s.invariant.tried (ap (λ t. t.0) tried) (omega (arith, ap (λ t. t.1) tried)) (sym c.is_empty.ensures.answer ∙ c.if-not-is_empty.true)
+    (omega arith)
 
 pub loop-s-preserved : goal.loop-s-preserved
 loop-s-preserved c =
     let t = c.loop-s.invariant.tried in
+    let tried = c.try_at-read.ensures in
+    let read = ap (λ t. t.1) tried in
     record {
-      tried = one_tried t c.range_at-range.ensures (omega arith) (sym c.is_empty.ensures.answer ∙ c.if-not-is_empty.false);
-      few = omega (arith, c.args.entries.now.strided.few, t.from);
+      tried = one_tried t (ap (λ t. t.0) tried) (omega (arith, read)) (sym c.is_empty.ensures.answer ∙ c.if-not-is_empty.false);
+      few = omega (arith, c.args.entries.now.strided.few, t.from, read);
     }
