@@ -1,5 +1,5 @@
 // A sheet taken in.
-ghost use Rattle.std.specs.Prelude.{◌≡◌, false, ◌<◌, List, length, ℤ};
+ghost use Rattle.std.specs.Prelude.{◌≡◌, false, ◌<◌, ◌≤◌, List, length, take, ℤ, IfSome, MatchOption};
 ghost use Rattle.sheet.specs.Owes.{Fed, Finished, is_busy};
 ghost use Rattle.sheet.specs.Parts.{Kept, TakenIn};
 
@@ -29,8 +29,19 @@ fn keep(line: &mut [u8; 160], at: usize, bytes: &[u8]) -> usize
     from + n
 }
 
+// The text of a line: what is kept of it, or the bytes of the piece in which it stands as a whole.
+fn text_of<'x>(line: &'x [u8; 160], kept: Option<usize>, bytes: &'x [u8]) -> &'x [u8]
+    requires { IfSome kept (λ k. k ≤ 160) }
+    ensures { MatchOption kept (result.now ≡ bytes.now) (λ k. result.now ≡ take k line.now) }
+{
+    match kept {
+        Some(k) => &line[..k],
+        None => bytes,
+    }
+}
+
 // A line taken in where nothing is to be written, or what there is of it if the piece ends before it does, and how much of the piece that is. A line
-// that stands in the piece as a whole isn't copied.
+// that stands in the piece as a whole isn't copied. `take_text` is called from this one place, so the compiler merges it into its caller.
 fn take_line(
     line: &mut [u8; 160],
     a: &mut [i32; MAX_PAIRS],
@@ -45,12 +56,12 @@ fn take_line(
         s.at = keep(line, s.at, piece);
         return piece.len();
     };
-    if s.at == 0 {
-        take_text(&piece[..n], a, b, s);
+    let kept = if s.at == 0 {
+        None
     } else {
-        let k = keep(line, s.at, &piece[..n]);
-        take_text(&line[..k], a, b, s);
-    }
+        Some(keep(line, s.at, &piece[..n]))
+    };
+    take_text(text_of(line, kept, &piece[..n]), a, b, s);
     n + 1
 }
 

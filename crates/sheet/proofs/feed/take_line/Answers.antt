@@ -17,16 +17,18 @@ returns c =
     let at = below _ _ c.in-Some.ensures in
     elim c.if-s-eq0.branch [
       | then-s-eq0 w ↦
-          rw (w.s-is, w.line-is, w.a-is, w.b-is)
+          let text = rw w.kept-is at c.text_of.ensures in
+          rw w.line-is
           (record {
-            owed = fed_owes c.args.s.now _ _ _ _ _ _ c.requires.0 (stands _ _ c.in-Some.ensures _ _ w.if-s-eq0.true) _ _ _ _ w.take_text.ensures;
+            owed = fed_owes c.args.s.now _ _ _ _ _ _ c.requires.0 (rw text (stands _ _ c.in-Some.ensures _ _ w.if-s-eq0.true)) _ _ _ _ c.take_text.ensures;
             within = omega arith;
             some = omega arith;
           })
       | else-s-eq0 w ↦
-          rw (w.s-is, w.line-is, w.a-is, w.b-is)
+          let text = rw (w.kept-is, w.line-is) at c.text_of.ensures in
+          rw w.line-is
           (record {
-            owed = fed_owes c.args.s.now _ _ _ _ _ _ c.requires.0 (goes_on _ _ c.in-Some.ensures _ _ _ _ w.keep-k.ensures) _ _ _ _ w.take_text-else-s-eq0.ensures;
+            owed = fed_owes c.args.s.now _ _ _ _ _ _ c.requires.0 (rw text (goes_on _ _ c.in-Some.ensures _ _ _ _ w.keep.ensures)) _ _ _ _ c.take_text.ensures;
             within = omega arith;
             some = omega arith;
           })
