@@ -2,9 +2,8 @@
 use mathlib.Core.Path.{◌≡◌, refl, sym, ap, ◌∙◌}
 use mathlib.Core.Bool.{not}
 use mathlib.Core.List.{List, [], ◌∷◌, ◌++◌, append-nil, append_assoc, map-append}
-use mathlib.Core.Logic.{◌⊎◌, inl, inr, ⊎_elim, ◌≢◌}
-use native.Mathlib.Decide.{dec_lt}
-use Prim.Native.Nat.{ℕ, suc, ◌+◌, ◌-◌, ◌*◌, ◌≤◌, ◌<◌}
+use mathlib.Core.Logic.{inl, inr, ◌≢◌}
+use Prim.Native.Nat.{ℕ, ◌+◌, ◌-◌, ◌*◌, ◌≤◌, ◌<◌}
 use native.Mathlib.Nat.{suc-mul}
 use native.Mathlib.Numerals.{add-one}
 use native.Mathlib.Omega.{arith}
@@ -12,10 +11,9 @@ use mir.Val.{bool_byte}
 use borrow.Author.Tests.{eq-eqb, ne_eqb}
 use borrow.Rule.Slice.PartMut.{put_mid}
 use lib.Dec.{eqb}
-use lib.ListN.{length, get_or, set, take, drop, length-append, length-set, length-drop, drop_of_length-le, get_or-append}
-use lib.Seq.{take-set-le, take-suc-set, drop-cons, drop-drop, drop_at, take_at, ext_get_or}
+use lib.ListN.{length, get_or, set, take, drop, length-append, length-set}
+use lib.Seq.{take-set-le, take-suc-set, drop-drop, drop_at, take_at, ext_get_or}
 use lib.IntN.{ℤ, pos}
-use Rattle.std.proofs.lemmas.List.{get_or-drop}
 use Rattle.wiring.specs.Wiring.{pad}
 use Rattle.wiring.specs.Part.{pair_of, part_of}
 use Rattle.route.specs.Table.{column_in, columns, wires}
@@ -61,68 +59,13 @@ module _ {stays : List ℕ} {row out₀ : List ℤ} {at k : ℕ} {out : List ℤ
                 (take-suc-set out at x filled_room ∙ rw (f.pads, here) (sym (map-append (pad row) (kept_among stays k) (k ∷ []))));
           })
 
--- a table from place k on that is cut into x and the rest: x is the k-th column and those after it
-cut_columns : (table x rest : List ℤ) (k : ℕ) → drop k table ≡ x ++ rest → x ≡ columns (λ t. pad table (k + t)) (length x)
-cut_columns table x rest k e =
-    let all = columns (λ t. pad table (k + t)) (length x) in
-    ext_get_or (pos 0) x all (sym (columns_length (λ t. pad table (k + t)) (length x))) (λ t h.
-    sym (get_or-append x rest (pos 0) t h)
-    ∙ ap (λ (xs : List ℤ). get_or xs t (pos 0)) (sym e)
-    ∙ get_or-drop k table t (pos 0)
-    ∙ sym (columns_at (λ u. pad table (k + u)) (length x) t [] h)
-    ∙ ap (λ (xs : List ℤ). get_or xs t (pos 0)) (append-nil all))
-
--- THE WIRES AND BYTES TO COME after the first i: what the loop has left of its table, and of its bytes
-pub record Coming (stays : List ℕ) (s : ℕ) (table : List ℤ) (i : ℕ) (rest : List ℤ) (left : List ℕ) : Type 0 where
-  pub wires_left : rest ≡ drop (i * (s + 1)) table
-  pub bytes_left : left ≡ drop i stays
-  pub most : i ≤ length stays
-
-pub coming_all : {stays : List ℕ} {s : ℕ} {table rest : List ℤ} {left : List ℕ} → rest ≡ table → left ≡ stays → Coming stays s table 0 rest left
-coming_all {s = s} {table = table} e f = record { wires_left = let z : 0 * (s + 1) ≡ 0 = omega arith in rw z e; bytes_left = f; most = omega arith }
-
--- the next wire and its byte
-pub record Next (stays : List ℕ) (s : ℕ) (table : List ℤ) (i : ℕ) (x : List ℤ) (b : ℕ) : Type 0 where
-  pub some : i < length stays
-  pub byte : b ≡ get_or stays i 0
-  pub wire : x ≡ columns (λ t. pad table (i * (s + 1) + t)) (s + 1)
-
-module _ {stays : List ℕ} {s : ℕ} {table : List ℤ} {i : ℕ} {rest : List ℤ} {left : List ℕ} (c : Coming stays s table i rest left) where
-  pub next : {rest' : List ℤ} {left' : List ℕ} (x : List ℤ) (b : ℕ) → rest ≡ x ++ rest' → length x ≡ s + 1 → left ≡ b ∷ left'
-      → Next stays s table i x b × Coming stays s table (i + 1) rest' left'
-  next {rest'} {left'} x b e l f = go (dec_lt i (length stays))
-    where
-      cut : drop (i * (s + 1)) table ≡ x ++ rest'
-      cut = sym c.wires_left ∙ e
-
-      go : Dec (i < length stays) → Next stays s table i x b × Coming stays s table (i + 1) rest' left'
-      go (yes h) =
-          let g : get_or stays i 0 ∷ drop (suc i) stays ≡ b ∷ left' = sym (drop-cons stays i 0 h) ∙ sym c.bytes_left ∙ f in
-          let k : i * (s + 1) + (s + 1) ≡ (i + 1) * (s + 1) = rw (add-one i) (omega (arith, suc-mul i (s + 1))) in (
-            record { some = h; byte = cc; wire = rw l at (cut_columns table x rest' (i * (s + 1)) cut) },
-            record {
-              wires_left =
-                  sym (drop_at x rest' (s + 1) l)
-                  ∙ ap (drop (s + 1)) (sym cut)
-                  ∙ drop-drop (s + 1) (i * (s + 1)) table
-                  ∙ ap (λ (m : ℕ). drop m table) k;
-              bytes_left = rw (add-one i) (cc);
-              most = omega arith;
-            },
-          )
-      go (no h) = let n : drop i stays ≡ [] = drop_of_length-le stays (omega arith) in cc
-
-  -- none comes after the last byte; a table that is long enough has a wire for each
-  pub come_all : length stays * (s + 1) ≤ length table → (length rest < s + 1) ⊎ (length left ≡ 0) → i ≡ length stays
-  come_all long e = go (dec_lt i (length stays))
-    where
-      go : Dec (i < length stays) → i ≡ length stays
-      go (yes h) =
-          let k = place_in (length stays) s i s h (omega arith) in
-          let n : length rest ≡ length table - i * (s + 1) = rw c.wires_left (length-drop (i * (s + 1)) table) in
-          let m : length left ≡ length stays - i = rw c.bytes_left (length-drop i stays) in
-          ⊎_elim (λ l. absurd (omega (arith, l, k))) (λ l. absurd (omega (arith, l))) e
-      go (no h) = omega (arith, c.most)
+-- so many columns, by their places
+pub columns_are : (f : ℕ → ℤ) (xs : List ℤ) (k : ℕ) → length xs ≡ k → ((t : ℕ) → t < k → get_or xs t (pos 0) ≡ f t) → xs ≡ columns f k
+columns_are f xs k l h =
+    ext_get_or (pos 0) xs (columns f k) (l ∙ sym (columns_length f k)) (λ t g.
+    h t (omega arith)
+    ∙ sym (columns_at f k t [] (omega arith))
+    ∙ ap (λ (ys : List ℤ). get_or ys t (pos 0)) (append-nil (columns f k)))
 
 -- THE WIRES THAT STAY of the first i stand in what was out₀, and `at` is the place after them
 pub record Held (stays : List ℕ) (s : ℕ) (table out₀ : List ℤ) (at i : ℕ) (out : List ℤ) : Type 0 where

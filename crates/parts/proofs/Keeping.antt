@@ -5,9 +5,10 @@ use mathlib.Core.List.{List, [], ◌∷◌, ◌++◌, append_assoc, append-nil}
 use mathlib.Core.Logic.{◌⊎◌, inl, inr, ⊎_elim, ◌≢◌, ◌↔◌}
 use Prim.Native.Nat.{ℕ, zero, suc, ◌+◌, ◌-◌, ◌≤◌, ◌<◌}
 use native.Mathlib.Decide.{dec_le}
-use native.Mathlib.Nat.{eq-or-lt_of_le}
+use native.Mathlib.Nat.{add-zero, eq-or-lt_of_le}
 use native.Mathlib.Numerals.{add-one}
 use native.Mathlib.Omega.{arith}
+use mir.Val.{bool_byte}
 use borrow.Author.Tests.{eq-eqb, ne_eqb}
 use lib.Dec.{eqb}
 use lib.ListN.{length, get_or, take, length-append, get_or-append}
@@ -58,6 +59,15 @@ kept_few stays zero = omega arith
 kept_few stays (suc n) =
     let few = kept_few stays n in
     ⊎_elim (λ g. rw g.1 (omega arith)) (λ g. rw g.1 (omega (arith, length-append (kept_among stays n) (n ∷ [])))) (goes stays n)
+
+-- one byte more, as a loop adds it
+pub kept_more : (stays : List ℕ) (n b : ℕ) → b ≡ get_or stays n 0 → length (kept_among stays (n + 1)) ≡ length (kept_among stays n) + bool_byte (not (eqb b 0))
+kept_more stays n b e =
+    rw e
+    (⊎_elim
+    (λ g. rw (eq-eqb (get_or stays n 0) 0 g.0) (as_many stays n g.0 ∙ sym (add-zero (length (kept_among stays n)))))
+    (λ g. rw (ne_eqb (get_or stays n 0) 0 g.0) (one_more stays n g.0))
+    (goes stays n))
 
 -- their number, by the bytes: those that aren't 0 are counted
 counted : (stays : List ℕ) (n : ℕ) → n ≤ length stays → count_by (λ x. not (eqb x 0)) (take n stays) ≡ length (kept_among stays n)

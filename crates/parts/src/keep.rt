@@ -1,5 +1,7 @@
 // What stays of a row of pads, and of a table of wires, written into memory.
 ghost use Rattle.std.specs.Prelude.{◌≡◌, ◌+◌, ◌*◌, ◌≤◌, length};
+ghost use Rattle.wiring.specs.Wiring.{pad};
+ghost use Rattle.route.specs.Table.{columns};
 ghost use Rattle.parts.specs.Stays.{row_kept};
 ghost use Rattle.parts.specs.Routed.{places_kept, part_written};
 
@@ -19,6 +21,17 @@ pub(crate) fn keep_pads<'a>(row: &[i32], stays: &[u8], out: &'a mut [i32]) -> &'
     &out[..at]
 }
 
+// The columns of a table from place `from` on, as many as there is room for. `copy_from_slice` calls the library's move of memory: for the few columns that most
+// wires have the call costs more than the columns, and whoever links the archive for C has to bring that name.
+fn copy(table: &[i32], from: usize, out: &mut [i32])
+    requires { from + length out.old ≤ length table.now }
+    ensures { out.new ≡ columns (λ t. pad table.now (from + t)) (length out.old) }
+{
+    for (t, place) in out.iter_mut().enumerate() {
+        *place = table[from + t];
+    }
+}
+
 // The wires of a table that stay, wire after wire, each with its s + 1 columns.
 pub(crate) fn keep_wires(part: Part<'_>, table: &[i32], out: &mut [i32])
     requires { (length part.stays.now * (part.question.separation + 1) ≤ length table.now)
@@ -27,9 +40,13 @@ pub(crate) fn keep_wires(part: Part<'_>, table: &[i32], out: &mut [i32])
 {
     let wire_places = part.question.separation + 1;
     let mut place = 0;
-    for (wire, &stay) in table.chunks_exact(wire_places).zip(part.stays) {
+    for (pair, &stay) in part.stays.iter().enumerate() {
         if stay != 0 {
-            out[place..place + wire_places].copy_from_slice(wire);
+            copy(
+                table,
+                pair * wire_places,
+                &mut out[place..place + wire_places],
+            );
             place += wire_places;
         }
     }
