@@ -1,5 +1,5 @@
 -- What a good frame has, and how the reader's steps come to the definition.
-use Rattle.std.proofs.Common.{◌≡◌, ℕ, ◌+◌, ◌-◌, ◌*◌, ◌%◌, ◌<◌, ◌≤◌, Bool, true, false, cond, eqb, leb, List, [], ◌∷◌, ◌++◌, length, get_or, take, drop, ℤ, pos, Option, Some, None, sym, refl, ap, ◌∙◌, arith, zero-add, drop-cons, drop_of_length-le, length-append, lt-ltb, eq-eqb, ne_eqb, eqb-true, le-leb, leb-true}
+use Rattle.std.proofs.Common.{◌≡◌, ℕ, ◌+◌, ◌-◌, ◌*◌, ◌%◌, ◌<◌, ◌≤◌, Bool, true, false, cond, eqb, leb, ◌⊎◌, inl, inr, List, [], ◌∷◌, ◌++◌, length, get_or, take, drop, ℤ, pos, Option, Some, None, sym, refl, ap, ◌∙◌, arith, zero-add, drop-cons, drop_of_length-le, length-append, lt-ltb, eq-eqb, ne_eqb, eqb-true, le-leb, leb-true}
 use mathlib.Core.Bool.{false≢true}
 use lib.Pointwise.{pointwise}
 use lib.Seq.{take-append_seam, get_or-append_seam}
@@ -11,7 +11,7 @@ use Rattle.frame.specs.Frame.{Frame, bad, header, bottom, top, one, four, fours,
 use Rattle.frame.specs.declared.read.Said.{Said}
 use Rattle.frame.specs.declared.read.Said.TheVariants.{Bottom, Top}
 use Rattle.frame.specs.Puts.{puts, Carried, ReadIn}
-use Rattle.frame.proofs.Scan.{either, bytes_length}
+use Rattle.frame.proofs.Scan.{either, value_small, low_digit, digit_at, bytes_length, byte_place, sound_digits}
 use Rattle.frame.proofs.Puts.{puts_is, fours_length, get_or_fours}
 
 cond_elim {ℓ} : {A : Type 0} (P : A → Type ℓ) (b : Bool) {x y : A} → (b ≡ true → P x) → (b ≡ false → P y) → P (cond b x y)
@@ -228,9 +228,48 @@ module _ (bs : List ℕ) (columns columns' : List ℤ) where
   unfolding kind_of
   top_in k = row_in top Top (λ l cs. refl) (λ l cs. refl) (simp k)
 
-pub other_in : (bs : List ℕ) (columns : List ℤ) → (length bs ≡ 11 → ⊥) → (one bs 0 ≡ 17 → ⊥) → (one bs 0 ≡ 18 → ⊥) → ReadIn (kind_of bs) columns None columns
+other_bad : (bs : List ℕ) → (length bs ≡ 11 → ⊥) → (one bs 0 ≡ 17 → ⊥) → (one bs 0 ≡ 18 → ⊥) → kind_of bs ≡ bad
 unfolding kind_of header_of
-other_in bs columns h b t = bad_read (kind_of bs) columns (either (eqb (one bs 0) 16) (λ e. simp (e, ne_eqb _ _ h)) (λ e. simp (e, ne_eqb _ _ b, ne_eqb _ _ t)))
+other_bad bs h b t = either (eqb (one bs 0) 16) (λ e. simp (e, ne_eqb _ _ h)) (λ e. simp (e, ne_eqb _ _ b, ne_eqb _ _ t))
+
+pub other_in : (bs : List ℕ) (columns : List ℤ) → (length bs ≡ 11 → ⊥) → (one bs 0 ≡ 17 → ⊥) → (one bs 0 ≡ 18 → ⊥) → ReadIn (kind_of bs) columns None columns
+other_in bs columns h b t = bad_read (kind_of bs) columns (other_bad bs h b t)
+
+-- ---- the two digits of a kind
+
+kind_digits : (s : List ℕ) (v : ℕ) → is_sound s ≡ true → 2 ≤ length s → v < 10 → one (bytes_of s) 0 ≡ 16 + v → (get_or s 0 0 ≡ 49) × (get_or s 1 0 ≡ 48 + v)
+kind_digits s v ok h small e =
+    let p = byte_place s 0 (omega arith) in
+    let x = value_small (get_or s 0 0) in
+    let y = value_small (get_or s 1 0) in
+    let d = sound_digits s ok in (
+      low_digit (get_or s 0 0) 1 (digit_at s 0 d (omega arith)) (omega arith) (omega arith),
+      low_digit (get_or s 1 0) v (digit_at s 1 d (omega arith)) (omega arith) small,
+    )
+
+-- of a header's length, but not 10
+pub no_header : (s : List ℕ) → length s ≡ 22 → (get_or s 0 0 ≡ 49 → get_or s 1 0 ≡ 48 → ⊥) → text_frame s ≡ bad
+unfolding text_frame
+no_header s l n =
+    either (is_sound s)
+    (λ ok.
+    let b = bytes_length s in
+    let e = not_header (bytes_of s) (omega arith) (λ k. let d = kind_digits s 0 ok (omega arith) (omega arith) k in n d.0 d.1) in
+    simp ok e)
+    (λ no. unsound_bad s no)
+
+-- of a length for columns, but neither 11 nor 12
+pub no_row : (s : List ℕ) → (length s % 8 ≡ 0) × (16 ≤ length s) → (get_or s 0 0 ≡ 49 → (get_or s 1 0 ≡ 49) ⊎ (get_or s 1 0 ≡ 50) → ⊥) → text_frame s ≡ bad
+unfolding text_frame
+no_row s l n =
+    either (is_sound s)
+    (λ ok.
+    let b = bytes_length s in
+    let e = other_bad (bytes_of s) (λ k. omega (arith, l.0))
+    (λ k. let d = kind_digits s 1 ok (omega (arith, l.1)) (omega arith) k in n d.0 (inl d.1))
+    (λ k. let d = kind_digits s 2 ok (omega (arith, l.1)) (omega arith) k in n d.0 (inr d.1)) in
+    simp ok e)
+    (λ no. unsound_bad s no)
 
 -- ---- the line feed
 

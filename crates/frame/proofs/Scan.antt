@@ -1,5 +1,6 @@
 -- Reading a text digit by digit: what the loops of decoding rest on.
-use Rattle.std.proofs.Common.{◌≡◌, ℕ, zero, suc, ◌+◌, ◌*◌, ◌/◌, ◌%◌, ◌<◌, max, Some, None, Bool, true, false, ◌&&◌, cond, nat_lt, ltb, eqb, List, [], ◌∷◌, length, get_or, take, sum, refl, sym, ◌∙◌, ap, arith, ltb-true, lt-ltb, eq-eqb, ne_eqb}
+use Rattle.std.proofs.Common.{◌≡◌, ℕ, zero, suc, ◌+◌, ◌*◌, ◌/◌, ◌%◌, ◌-◌, ◌<◌, max, Some, None, Bool, true, false, ◌&&◌, cond, nat_lt, ltb, eqb, List, [], ◌∷◌, length, get_or, take, sum, refl, sym, ◌∙◌, ap, arith, ltb-true, ltb-false, lt-ltb, eq-eqb, ne_eqb}
+use mathlib.Core.Bool.{false≢true}
 use Rattle.std.specs.List.{list_all}
 use Rattle.std.specs.Option.{unwrap_or}
 use Rattle.std.proofs.lemmas.List.{ext_get_or}
@@ -19,6 +20,16 @@ value_small c =
     (λ e. either (ltb c 58) (λ f. simp (e, f) (omega (arith, ltb-true c 58 f)))
     (λ f. either (ltb c 65) (λ g. simp (e, f, g) (omega arith))
     (λ g. either (ltb c 71) (λ h. simp (e, f, g, h) (omega (arith, ltb-true c 71 h))) (λ h. simp (e, f, g, h) (omega arith)))))
+
+-- the digit that is worth less than 10
+pub low_digit : (c v : ℕ) → is_digit c ≡ true → value_of c ≡ v → v < 10 → c ≡ 48 + v
+unfolding value_of is_digit
+low_digit c v d e h =
+    either (ltb c 48) (λ a. absurd (false≢true (simp a at d)))
+    (λ a. either (ltb c 58)
+    (λ b. let q : c - 48 ≡ v = simp (a, b) at e in let p = ltb-false c 48 a in omega arith)
+    (λ b. either (ltb c 65) (λ g. absurd (false≢true (simp (a, b, g) at d)))
+    (λ g. let n : ltb c 71 ≡ true = simp (a, b, g) at d in let q : c - 55 ≡ v = simp (a, b, g, n) at e in let p = ltb-false c 65 g in absurd (omega arith))))
 
 -- only a digit is worth less than 16
 worth_small : (c : ℕ) → nat_lt (worth c) 16 ≡ is_digit c
@@ -42,7 +53,7 @@ worths_more text i most d r h ed er so =
     ∙ ap (λ (x : Bool). x && is_digit (get_or text i 0)) so
     ∙ sym (list_all_more is_digit text i 0 h)
 
-digit_at : (text : List ℕ) (i : ℕ) → list_all is_digit text ≡ true → i < length text → is_digit (get_or text i 0) ≡ true
+pub digit_at : (text : List ℕ) (i : ℕ) → list_all is_digit text ≡ true → i < length text → is_digit (get_or text i 0) ≡ true
 digit_at text i all h = either (is_digit (get_or text i 0)) (λ e. e) (λ e. let n = list_all_at is_digit text i 0 h e in cc)
 
 -- ---- bytes by their places
@@ -53,7 +64,7 @@ bytes_length [] = refl
 bytes_length (h ∷ []) = refl
 bytes_length (h ∷ l ∷ s) = let r = bytes_length s in omega arith
 
-byte_place : (s : List ℕ) (i : ℕ) → 2 * i + 1 < length s → get_or (bytes_of s) i 0 ≡ 16 * value_of (get_or s (2 * i) 0) + value_of (get_or s (2 * i + 1) 0)
+pub byte_place : (s : List ℕ) (i : ℕ) → 2 * i + 1 < length s → get_or (bytes_of s) i 0 ≡ 16 * value_of (get_or s (2 * i) 0) + value_of (get_or s (2 * i + 1) 0)
 unfolding bytes_of
 byte_place [] i h = absurd (omega arith)
 byte_place (a ∷ []) i h = absurd (omega arith)
@@ -64,6 +75,14 @@ byte_place (a ∷ b ∷ s) (suc i) h =
     rw (p, q) (byte_place s i (omega arith))
 
 -- ---- a sound text
+
+pub sound_digits : (s : List ℕ) → is_sound s ≡ true → list_all is_digit s ≡ true
+unfolding is_sound
+sound_digits s h =
+    either (list_all is_digit s) (λ e. e)
+    (λ e. either (eqb (length s % 2) 0)
+    (λ f. let z : ◌≡◌ {A = Bool} false true = simp (e, f) at h in absurd (false≢true z))
+    (λ f. let z : ◌≡◌ {A = Bool} false true = simp f at h in absurd (false≢true z)))
 
 -- a text of whole bytes whose worths were read, r if all are digits
 module _ (text worths : List ℕ) (r : Bool) (even : length text % 2 ≡ 0) (w : WorthsRead text r worths) where

@@ -1,6 +1,6 @@
 // A line read as a frame.
-ghost use Rattle.std.specs.Prelude.{◌≡◌, ◌+◌, ◌*◌, ◌<◌, ◌≤◌, ◌%◌, ◌↔◌, ◌≢◌, drop, length, take, IsTrue};
-ghost use Rattle.frame.specs.Frame.{one, two, four, fours, kind_of, text_frame, frame_of, said_of};
+ghost use Rattle.std.specs.Prelude.{◌≡◌, ◌+◌, ◌*◌, ◌<◌, ◌≤◌, ◌%◌, ◌↔◌, ◌≢◌, false, drop, length, take, IsTrue};
+ghost use Rattle.frame.specs.Frame.{bad, one, two, four, fours, kind_of, text_frame, frame_of, said_of};
 ghost use Rattle.frame.specs.Puts.{puts, Carried, ReadIn};
 
 use crate::hex::{LONGEST, ROOM, decode};
@@ -96,18 +96,34 @@ fn is_carrier(n: usize) -> bool
     n % 8 == 0 && (16..=LONGEST).contains(&n)
 }
 
-// What a line says, from its text: all before its line feed. Its columns go into the lent memory, from the first place on. The length decides first: it
-// is cheap to tell, and many damaged lines have none that fits.
+// Whether a text has a length of a frame, and begins with the two digits of a kind that has it.
+fn is_framed(text: &[u8]) -> bool
+    ensures bad { result ≡ false → text_frame text.now ≡ bad }
+    ensures whole { IsTrue result → (length text.now % 2 ≡ 0) × (8 ≤ length text.now) × (length text.now ≤ LONGEST) }
+{
+    if text.len() == 22 {
+        return text[0] == b'1' && text[1] == b'0';
+    }
+    if !is_carrier(text.len()) || text[0] != b'1' {
+        return false;
+    }
+    text[1] == b'1' || text[1] == b'2'
+}
+
+// What a line says, from its text: all before its line feed. Its columns go into the lent memory, from the first place on. The length and then the digits of
+// the kind decide first: they are cheap to tell, and many damaged lines have none that fit.
 pub fn read_text(text: &[u8], columns: &mut [i32; 16]) -> Option<Said>
     ensures { ReadIn (text_frame text.now) columns.old result columns.new }
 {
+    if !is_framed(text) {
+        return None;
+    }
     let mut room = [0u8; ROOM];
-    if text.len() == 22 {
-        header(decode(text, &mut room)?)
-    } else if is_carrier(text.len()) {
-        carrier(decode(text, &mut room)?, columns)
+    let bytes = decode(text, &mut room)?;
+    if bytes.len() == 11 {
+        header(bytes)
     } else {
-        None
+        carrier(bytes, columns)
     }
 }
 
