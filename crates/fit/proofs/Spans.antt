@@ -33,7 +33,7 @@ use Rattle.jumper.specs.declared.refusal.Refusal.TheVariants.{NoOffset}
 use Rattle.jumper.proofs.Accepted.{numbered, refused_not}
 use Rattle.jumper.proofs.Checks.{tracks_accepted, early_tracks}
 use Rattle.jumper.proofs.Spans.{range_exactly, none_fits}
-use Rattle.fit.specs.Offsets.{gap, low_gap, high_gap, gaps_of, range_found, FirstLow, FirstHigh, OffsetsAnswer}
+use Rattle.fit.specs.Offsets.{gap, low_gap, high_gap, gaps_of, GapFrom, range_found, FirstLow, FirstHigh, OffsetsAnswer}
 use Rattle.fit.proofs.Ends.{low_is, high_is, fit_difference}
 use Rattle.jumper.proofs.Wired.{wiring_exactly}
 
@@ -137,12 +137,27 @@ module _ (a b : List ℤ) (s : ℕ) where
         go (yes h) = tested h (is_empty (range_of n x y t)) refl
         go (no h) = let g : n ≤ t = omega arith in rw (past_all n x y t g) (whole_answer g)
 
+-- one round of a search more, in which what is sought wasn't found
+pub none_before : (f : ℕ → ℤ) (w : ℤ) (k : ℕ) → ((p : ℕ) → p < k → f p ≢ w) → f k ≢ w → (p : ℕ) → p < k + 1 → f p ≢ w
+none_before f w k before here p h = go (dec_lt p k)
+  where
+    go : Dec (p < k) → f p ≢ w
+    go (yes l) = before p l
+    go (no l) = let e : p ≡ k = omega arith in rw e here
+
+pub one_left : {a b : List ℤ} {i j k : ℕ} {w : ℤ} → GapFrom a b i j k w → gap a b (k + i) (k + j) ≢ w → GapFrom a b i j (k + 1) w
+one_left {a} {b} {i} {j} {k} {w} g here = record { place = g.place; from = go (dec_lt k g.place); within = g.within; is = g.is }
+  where
+    go : Dec (k < g.place) → k + 1 ≤ g.place
+    go (yes l) = omega arith
+    go (no l) = let e : g.place ≡ k = omega (arith, g.from) in absurd (here (rw e at g.is))
+
 -- a place that no earlier one is like, and that is like the first such place, is that
-first_is : (f : ℕ → ℤ) (w : ℤ) (m p i : ℕ) → p ≤ m → f p ≡ w → ((k : ℕ) → k < p → f k ≢ w) → ((k : ℕ) → k < i → f k ≢ w) → ((k : ℕ) → k ≤ m → f k ≡ w → f i ≡ w) → i ≡ p
-first_is f w m p i h e first before found = go (dec_lt i p) (dec_lt p i)
+first_is : (f : ℕ → ℤ) (w : ℤ) (p i : ℕ) → f p ≡ w → ((k : ℕ) → k < p → f k ≢ w) → ((k : ℕ) → k < i → f k ≢ w) → f i ≡ w → i ≡ p
+first_is f w p i e first before found = go (dec_lt i p) (dec_lt p i)
   where
     go : Dec (i < p) → Dec (p < i) → i ≡ p
-    go (yes l) k = absurd (first i l (found p h e))
+    go (yes l) k = absurd (first i l found)
     go (no l) (yes k) = absurd (before p k e)
     go (no l) (no k) = omega arith
 
@@ -166,28 +181,41 @@ module _ (a b : List ℤ) (s : ℕ) where
   pub gap_of_high : (range_of (length a) (lean_of a) (lean_of b) s).high +ℤ pos s ≡ (gaps_of a b s).high
   gap_of_high = let r = range_of (length a) (lean_of a) (lean_of b) s in let g = gaps_of a b s in omega (arithℤ, high_of_gaps, dif g.high (pos s), sum r.high (pos s))
 
-  -- the first pair with an end's gap is the first that sets it
-  module _ (i : ℕ) (few : s < length a) where
+  -- a pair has an end's gap, and the first that has it is the first that sets the end
+  module _ (few : s < length a) where
     abbrev m : ℕ
     m = length a - s - 1
 
-    pub low_first : (w : ℤ) → w ≡ (gaps_of a b s).low → ((k : ℕ) → k < i → gap a b (k + 0) (k + s) ≢ w) → ((k : ℕ) → k + 0 + s < length a → gap a b (k + 0) (k + s) ≡ w → gap a b (i + 0) (i + s) ≡ w)
-        → i ≡ lowest_at (length a) (lean_of a) (lean_of b) s
-    low_first w e before found =
+    pub low_there : (w : ℤ) → w ≡ (gaps_of a b s).low → GapFrom a b 0 s 0 w
+    low_there w e =
         let l = largest_law (low_gap a b s) m in
-        first_is (low_gap a b s) w m (largest_at (low_gap a b s) m) i l.within (sym e) (λ k h g. omega (arithℤ, l.first k h, g, e))
-        (λ k h g. before k h (rw (add-zero k) g))
-        (λ k h g. rw (add-zero i) at (found k (omega arith) (rw (add-zero k) g)))
-        ∙ sym low_at
+        let p = largest_at (low_gap a b s) m in
+        record { place = p; from = omega arith; within = omega (arith, l.within); is = rw (add-zero p, e) }
 
-    pub high_first : (w : ℤ) → w ≡ (gaps_of a b s).high → ((k : ℕ) → k < i → gap a b (k + s) (k + 0) ≢ w) → ((k : ℕ) → k + s + 0 < length a → gap a b (k + s) (k + 0) ≡ w → gap a b (i + s) (i + 0) ≡ w)
-        → i ≡ highest_at (length a) (lean_of a) (lean_of b) s
-    high_first w e before found =
+    pub high_there : (w : ℤ) → w ≡ (gaps_of a b s).high → GapFrom a b s 0 0 w
+    high_there w e =
         let l = smallest_law (high_gap a b s) m in
-        first_is (high_gap a b s) w m (smallest_at (high_gap a b s) m) i l.within (sym e) (λ k h g. omega (arithℤ, l.first k h, g, e))
-        (λ k h g. before k h (rw (add-zero k) g))
-        (λ k h g. rw (add-zero i) at (found k (omega arith) (rw (add-zero k) g)))
-        ∙ sym high_at
+        let p = smallest_at (high_gap a b s) m in
+        record { place = p; from = omega arith; within = omega (arith, l.within); is = rw (add-zero p, e) }
+
+    module _ (i : ℕ) where
+      pub low_first : (w : ℤ) → w ≡ (gaps_of a b s).low → ((k : ℕ) → k < i → gap a b (k + 0) (k + s) ≢ w) → gap a b (i + 0) (i + s) ≡ w
+          → i ≡ lowest_at (length a) (lean_of a) (lean_of b) s
+      low_first w e before found =
+          let l = largest_law (low_gap a b s) m in
+          first_is (low_gap a b s) w (largest_at (low_gap a b s) m) i (sym e) (λ k h g. omega (arithℤ, l.first k h, g, e))
+          (λ k h g. before k h (rw (add-zero k) g))
+          (rw (add-zero i) at found)
+          ∙ sym low_at
+
+      pub high_first : (w : ℤ) → w ≡ (gaps_of a b s).high → ((k : ℕ) → k < i → gap a b (k + s) (k + 0) ≢ w) → gap a b (i + s) (i + 0) ≡ w
+          → i ≡ highest_at (length a) (lean_of a) (lean_of b) s
+      high_first w e before found =
+          let l = smallest_law (high_gap a b s) m in
+          first_is (high_gap a b s) w (smallest_at (high_gap a b s) m) i (sym e) (λ k h g. omega (arithℤ, l.first k h, g, e))
+          (λ k h g. before k h (rw (add-zero k) g))
+          (rw (add-zero i) at found)
+          ∙ sym high_at
 
 -- the range as the code has it, of which it takes off the s again
 module _ (rows : Rows) (s : ℕ) (inside : s < length rows.bottom.now) (v : OffsetRange) (e : v ≡ range_of (length rows.bottom.now) (lean_of rows.bottom.now) (lean_of rows.top.now) s) where

@@ -32,6 +32,13 @@ high_gap a b s i = gap a b (i + s) i
 abbrev pub gaps_of : (a b : List ℤ) (s : ℕ) → OffsetRange
 gaps_of a b s = record { low = largest (low_gap a b s) (length a - s - 1); high = smallest (high_gap a b s) (length a - s - 1) }
 
+-- a pair from pair k on has this gap between its bottom pad i on and its top pad j on, both in rows of one length
+pub record GapFrom (a b : List ℤ) (i j k : ℕ) (w : ℤ) : Type 0 where
+  pub place : ℕ
+  pub from : k ≤ place
+  pub within : place + i + j < length a
+  pub is : gap a b (place + i) (place + j) ≡ w
+
 -- "For s >= n the range given is that of the accepted offsets." s is the rule's number here: by 02, #106, that is at separations above n
 abbrev pub range_found : (n : ℕ) (x y : ℕ → ℤ) (s : ℕ) → Result OffsetRange Refusal
 range_found n x y s =

@@ -3,7 +3,7 @@ ghost use Rattle.std.specs.Prelude.{◌≡◌, ◌≢◌, ℕ, ◌+◌, ◌-◌,
 ghost use Rattle.wiring.specs.Fit.{lean_of};
 ghost use Rattle.jumper.specs.Limits.{max_tracks};
 ghost use Rattle.jumper.specs.Span.{range_of};
-ghost use Rattle.fit.specs.Offsets.{gap, gaps_of, range_found, OffsetsAnswer};
+ghost use Rattle.fit.specs.Offsets.{gap, gaps_of, GapFrom, range_found, OffsetsAnswer};
 
 use jumper::asked::check_tracks;
 use jumper::range::OffsetRange;
@@ -55,20 +55,18 @@ pub(crate) fn range_of(rows: Rows<'_>, s: usize) -> OffsetRange
     }
 }
 
-// The first of the pairs with this gap between bottom pad i on and top pad j on: an end's own gap finds the pair that sets it. Only a refusal asks for it, so
-// the loop above is spared the places.
+// The first of the pairs with this gap between bottom pad i on and top pad j on: an end's own gap finds the pair that sets it. There is one, so the search asks
+// for nothing but the gap. Only a refusal asks for it, so the loop above is spared the places.
 fn first_with(rows: Rows<'_>, i: usize, j: usize, wanted: i32) -> usize
-    requires { (i < length rows.bottom.now) × (j < length rows.bottom.now) }
+    requires { GapFrom rows.bottom.now rows.top.now i j 0 wanted }
     ensures before { (k : ℕ) → k < result → gap rows.entry.bottom.now rows.entry.top.now (k + i) (k + j) ≢ wanted }
-    ensures found { let at = gap rows.entry.bottom.now rows.entry.top.now in
-        (k : ℕ) → k + i + j < length rows.entry.bottom.now → at (k + i) (k + j) ≡ wanted → at (result + i) (result + j) ≡ wanted }
+    ensures found { gap rows.entry.bottom.now rows.entry.top.now (result + i) (result + j) ≡ wanted }
 {
-    for k in 0..rows.bottom.len().saturating_sub(i + j) {
-        if gap(rows, k + i, k + j) == wanted {
-            return k;
-        }
+    let mut k = 0;
+    while gap(rows, k + i, k + j) != wanted {
+        k += 1;
     }
-    0
+    k
 }
 
 #[tactic(auto, using(crate::proofs::Spans::low_fits, crate::proofs::Spans::high_fits))]
