@@ -2,7 +2,7 @@
 --     the records that a loop over the table has answered
 --     answering twice, in any order, and all: `again`, `swap`, `all_in_any_order`
 --     a line's answer depends on its own record and pads alone: `own_answer`, `own_alone`, `own_among_all`
-use mathlib.Core.Path.{◌≡◌, refl, sym, ◌∙◌}
+use mathlib.Core.Path.{◌≡◌, refl, sym, ap, ◌∙◌}
 use mathlib.Core.Bool.{Bool, true, false, cond}
 use mathlib.Core.List.{List, [], ◌∷◌, map}
 use Prim.Native.Nat.{ℕ, zero, suc, ◌+◌, ◌≤◌, ◌<◌}
@@ -16,7 +16,7 @@ use lib.IntN.{ℤ}
 use borrow.Author.Count.{below_more}
 use Rattle.std.proofs.lemmas.List.{get_or-map}
 use Rattle.jumper.specs.Limits.{max_lines}
-use Rattle.form.specs.Line.{answer_of, answered_of, Inside, LineAnswer, SameLine}
+use Rattle.form.specs.Line.{answer_of, answered_of, with_answer, Inside, LineAnswer, SameLine}
 use Rattle.form.specs.Table.{no_record, record_at, too_long, line_says, line_done, all_says, answered_each, all_done, in_order, among, EachAnswered}
 use Rattle.form.specs.declared.line.Order.{Order}
 use Rattle.form.specs.declared.line.Line.{Line}
@@ -28,6 +28,10 @@ pub record Swept (t : List Line) (p q : List ℤ) (i : ℕ) (u : List Line) : Ty
   pub same : length u ≡ length t
   pub done : (k : ℕ) → k < i → LineAnswer (record_at t k) p q (record_at u k)
   pub left : (k : ℕ) → i ≤ k → record_at u k ≡ record_at t k
+
+-- a line's answer is all that answering it changes
+pub answer_alone : {line r : Line} {p q : List ℤ} → LineAnswer line p q r → r ≡ with_answer line r.answer
+answer_alone {line} a = a.answer ∙ ap (with_answer line) (sym (ap (λ (l : Line). l.answer) a.answer))
 
 module _ {t : List Line} {p q : List ℤ} {i : ℕ} {u : List Line} (s : Swept t p q i u) where
   pub swept_more : (r : Line) → i < length u → LineAnswer (record_at u i) p q r → Swept t p q (i + 1) (set u i r)

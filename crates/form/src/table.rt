@@ -1,5 +1,6 @@
 // The table of a form: one record for each order line, lent as a slice. Two thin functions over it, and a bridge by value for callers that hold an
-// array. A call's result is its own refusal, LINE or none; a line's refusal stands in its record.
+// array. A call's result is its own refusal, LINE or none; a line's refusal stands in its record. Only a record's answer is written: its order, copied back, would be
+// stored in parts and loaded whole, which the processor waits for.
 ghost use Rattle.jumper.specs.Rows.{checked_numbers};
 ghost use Rattle.form.specs.Table.{OneAnswered, EachAnswered, AllAnswered, RowsAnswered};
 
@@ -19,7 +20,7 @@ pub fn answer_line(
     if MAX_LINES < table.len() || table.len() <= k {
         return Err(Refusal::Line);
     }
-    table[k] = answered(table[k], pool_a, pool_b);
+    table[k].answer = answered(table[k], pool_a, pool_b).answer;
     Ok(())
 }
 
@@ -39,7 +40,7 @@ fn answer_each(table: &mut [Line], pool_a: &[i32], pool_b: &[i32])
     ensures { EachAnswered table.old pool_a.now pool_b.now table.new }
 {
     for line in table.iter_mut() {
-        *line = answered(*line, pool_a, pool_b);
+        line.answer = answered(*line, pool_a, pool_b).answer;
     }
 }
 

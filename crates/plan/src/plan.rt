@@ -7,6 +7,7 @@ use fit::least::least_at;
 use fit::misfit::fit;
 use fit::offsets::range_at;
 use jumper::limits::MAX_LADDER;
+use jumper::range::OffsetRange;
 use jumper::refusal::Numbers;
 
 // What the wish names itself, a separation or an offset, is told with what was found. The ladder isn't asked for: it goes into a buffer of this call's own,
@@ -18,9 +19,7 @@ pub fn plan(wish: Wish, a: &[i32], b: &[i32]) -> Numbers
         Wish::Fit(s, d) => match fit(a, b, s, d) {
             Ok(()) => Numbers {
                 separation: s,
-                lowest: d,
-                highest: d,
-                ..Numbers::NOTHING
+                ..Numbers::from(OffsetRange { low: d, high: d })
             },
             Err(r) => Numbers::from(r),
         },

@@ -9,7 +9,7 @@ use Rattle.plan.proofs.plan.plan.Goals as goal
 pub returns-in-Err : goal.returns-in-Err
 returns-in-Err c =
     let e = to_z-of_z w32 c.in-Fit.d (search rules) in
-    rw (c.in-Fit.is, c.from.ensures) (fit_plan_lem _ _ _ _ (Err _) (rw e at c.in-Err.ensures))
+    rw (c.in-Fit.is, c.from-in-Err.ensures) (fit_plan_lem _ _ _ _ (Err _) (rw e at c.in-Err.ensures))
 
 pub returns-in-Err-least_at : goal.returns-in-Err-least_at
 returns-in-Err-least_at c =
