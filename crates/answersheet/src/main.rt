@@ -88,7 +88,7 @@ impl<W: Write, E: Eprint> Desk<'_, '_, W, E> {
             rest = &rest[f.used..];
             self.send()?;
         }
-        Err(Stopped)
+        Err(Stopped) // a rest of the piece is left
     }
 
     // All that is still to write, sent.
@@ -112,7 +112,7 @@ impl<W: Write, E: Eprint> Desk<'_, '_, W, E> {
                 return Ok(());
             }
         }
-        Err(Stopped)
+        Err(Stopped) // something is still to write
     }
 
     // The sheet ends: what is still to write is sent, and then what its end calls for.
