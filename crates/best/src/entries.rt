@@ -48,8 +48,7 @@ impl<'a> Entries<'a> {
     }
 
     // A trial: the range at s, and how many differences were read for it. Each low end is step s further on than the difference that is read for it, and each
-    // high end as much less: this is added once. It is inlined: what it hands back through memory is written in parts and loaded whole, which the processor waits for.
-    #[inline]
+    // high end as much less: this is added once.
     pub(crate) fn try_at(&self, s: usize) -> (OffsetRange, usize)
         requires { s < self.now.len }
         ensures { result ≡ trial_of self.now.len (x_of self.now) (y_of self.now) s }
