@@ -76,10 +76,6 @@ pub held_none : (stays : List ℕ) (s : ℕ) (table out₀ : List ℤ) → Held 
 unfolding wires
 held_none stays s table out₀ = record { place = rw (kept_none stays) (omega arith); written = rw (kept_none stays) }
 
-pub held_all : {stays : List ℕ} {s : ℕ} {table out₀ : List ℤ} {at i : ℕ} {out : List ℤ} → i ≡ length stays → Held stays s table out₀ at i out
-    → out ≡ part_written stays s table out₀
-held_all e h = rw (h.place, e) at h.written
-
 module _ {stays : List ℕ} {s : ℕ} {table out₀ : List ℤ} {at i : ℕ} {out : List ℤ} (h : Held stays s table out₀ at i out) where
   pub held_dropped : get_or stays i 0 ≡ 0 → Held stays s table out₀ at (i + 1) out
   held_dropped e = record { place = rw (as_many stays i e) h.place; written = rw (as_many stays i e) h.written }
